@@ -1,0 +1,18 @@
+-- The laws of one block, all together. Assumes nothing.
+use Rattle.coverings.specs.Words.{wordOf}
+use Rattle.block.specs.Laws.{BlockLaws}
+use Rattle.block.proofs.Words.{good}
+use Rattle.block.proofs.Blocks.{inverse-forward, inverse-squares, forward-squares}
+use Rattle.block.proofs.Pick.{pick-number, pick-least}
+use Rattle.block.proofs.Named.{pick-named, named-cost}
+
+pub laws : BlockLaws
+laws = record {
+  restored = λ n m. inverse-forward (wordOf n) (good n m);
+  forwardSquares = λ n m. forward-squares (wordOf n) (good n m);
+  inverseSquares = λ n m. inverse-squares (wordOf n) (good n m);
+  number = pick-number;
+  least = pick-least;
+  leastNamed = pick-named;
+  named = named-cost;
+}

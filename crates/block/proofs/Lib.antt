@@ -1,0 +1,6 @@
+pub mod All
+pub mod Blocks
+pub mod Named
+pub mod Pick
+pub mod Rows
+pub mod Words

@@ -1,0 +1,41 @@
+-- The checks of the entry `word_of`, by what its tests find. Assumes nothing.
+use mathlib.Core.Path.{_≡_, refl, sym, ap, _∙_}
+use mathlib.Core.Bool.{Bool, true, false, not, _&&_}
+use mathlib.Core.List.{List}
+use Prim.Native.Nat.{ℕ, suc, _<_, _≤_}
+use native.Mathlib.Omega.{arith}
+use native.Mathlib.Decide.{decLt}
+use borrow.Author.Tests.{eq-eqb, ne-eqb, le-leb, lt-leb}
+use lib.Dec.{eqb, leb}
+use lib.ListN.{length}
+use Rattle.refusals.specs.Refusal.{afterCall, numberOf}
+use Rattle.refusals.specs.declared.Answer.the-variants.{Done, Refused}
+use Rattle.refusals.specs.declared.Refusal.the-variants.{Frame, Covering}
+use Rattle.coverings.specs.Words.{wordOf}
+use Rattle.coverings.specs.Rule.{Number}
+use Rattle.coverings.specs.Entry.{isNumber, wordRefusal, WordAnswered}
+
+pub number-yes : (n : ℕ) → Number n → isNumber n ≡ true
+number-yes n h = simp (le-leb 1 n (h .0), le-leb n 117 (h .1))
+
+pub number-no : (n : ℕ) → (Number n → ⊥) → isNumber n ≡ false
+number-no n h = go (decLt n 1)
+  where
+    go : Dec (n < 1) → isNumber n ≡ false
+    go (yes l) = simp (lt-leb 1 n l)
+    go (no l) = simp (le-leb 1 n (omega arith), lt-leb n 117 (past (decLt 117 n)))
+      where
+        past : Dec (117 < n) → 117 < n
+        past (yes g) = g
+        past (no g) = absurd (h (omega arith, omega arith))
+
+-- each return of the entry
+module _ (covering : ℕ) (old : List ℕ) where
+  pub wrong-frame : (length old ≡ 16 → ⊥) → WordAnswered covering old old (Refused Frame)
+  wrong-frame h = record { number = simp (ne-eqb (length old) 16 h); slice = simp (ne-eqb (length old) 16 h) }
+
+  pub no-covering : length old ≡ 16 → (Number covering → ⊥) → WordAnswered covering old old (Refused Covering)
+  no-covering e h = record { number = simp (eq-eqb (length old) 16 e, number-no covering h); slice = simp (eq-eqb (length old) 16 e, number-no covering h) }
+
+  pub word-given : length old ≡ 16 → Number covering → (new : List ℕ) → new ≡ wordOf covering → WordAnswered covering old new Done
+  word-given e h new g = record { number = simp (eq-eqb (length old) 16 e, number-yes covering h); slice = simp (eq-eqb (length old) 16 e, number-yes covering h) g }

@@ -1,0 +1,9 @@
+pub mod Checks
+pub mod Examples
+pub mod Flat
+pub mod Lists
+pub mod Search
+pub mod Shape
+pub mod Sound
+pub mod Table
+pub mod Valid

@@ -1,0 +1,4 @@
+pub mod Block
+pub mod Entry
+pub mod Rule
+pub mod Words

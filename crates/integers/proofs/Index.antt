@@ -1,0 +1,15 @@
+-- Flat indices: the entry in row y, column x of an image of height h is at x * h + y. Assumes nothing.
+use mathlib.Core.Path.{_≡_, ap, _∙_}
+use Prim.Native.Nat.{ℕ, _+_, _*_, _/_, _%_, _<_}
+use native.Mathlib.Omega.{arith}
+use native.Mathlib.Nat.{add-zero, mul-add-div-right, mul-add-mod-self-right, mod-eq-of-lt, div-eq-of-lt, mul-le-mul-right}
+
+pub index-bound : (j i n m : ℕ) → j < n → i < m → j * m + i < n * m
+index-bound j i n m h l = omega (arith, mul-le-mul-right m h)
+
+-- the number of an entry in column order
+pub column-row : (x y h : ℕ) → y < h → (x * h + y) % h ≡ y
+column-row x y h l = mul-add-mod-self-right x h y ∙ mod-eq-of-lt l
+
+pub column-col : (x y h : ℕ) → y < h → (x * h + y) / h ≡ x
+column-col x y h l = mul-add-div-right (omega arith) x y ∙ ap (λ (z : ℕ). x + z) (div-eq-of-lt l) ∙ add-zero x

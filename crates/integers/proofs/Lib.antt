@@ -1,0 +1,12 @@
+pub mod Bound
+pub mod Div
+pub mod Half
+pub mod Index
+pub mod Laws
+pub mod Lin
+pub mod Machine
+pub mod Ring
+pub mod Signs
+pub mod Sums
+pub mod Tabulate
+pub mod Tests

@@ -1,0 +1,79 @@
+-- Tests: what a Boolean tells, a test of each number below n and of each entry of a list, and `ltb` as a fact.
+-- Assumes nothing.
+use mathlib.Core.Path.{_≡_, refl, subst, subst⁻¹}
+use mathlib.Core.Logic.{_⊎_, inl, inr}
+use mathlib.Core.Bool.{Bool, true, false, not, _&&_, _||_}
+use mathlib.Core.List.{List, [], _∷_}
+use Prim.Native.Nat.{ℕ, zero, suc, _<_, _≤_}
+use native.Mathlib.Nat.{not-suc-le-zero, le-of-suc-le-suc}
+use native.Mathlib.Omega.{arith}
+use lib.Dec.{T, eqb, eqb→eq, eqb-refl, ltb, ltb→lt, lt→ltb}
+use lib.ListN.{length, getD}
+
+pub is-true : (t : Bool) → T t → t ≡ true
+is-true true h = refl
+is-true false h = absurd h
+
+pub is-false : (t : Bool) → (T t → ⊥) → t ≡ false
+is-false true h = absurd (h tt)
+is-false false h = refl
+
+pub both-left : (a b : Bool) → T (a && b) → T a
+both-left true b t = tt
+both-left false b t = t
+
+pub both-right : (a b : Bool) → T (a && b) → T b
+both-right true b t = t
+both-right false b t = absurd t
+
+pub either : (a b : Bool) → T (a || b) → T a ⊎ T b
+either true b t = inl tt
+either false b t = inr t
+
+pub or-left : (a b : Bool) → T a → T (a || b)
+or-left true b t = tt
+or-left false b t = absurd t
+
+pub or-right : (a b : Bool) → T b → T (a || b)
+or-right true b t = tt
+or-right false b t = t
+
+pub decided : (b : Bool) → T b ⊎ T (not b)
+decided true = inl tt
+decided false = inr tt
+
+pub refused : (b : Bool) → T (not b) → T b → ⊥
+refused true n t = n
+refused false n t = t
+
+pub eq→eqb : {a b : ℕ} → a ≡ b → T (eqb a b)
+eq→eqb {a} {b} e = subst (λ (k : ℕ). T (eqb a k)) e (eqb-refl a)
+
+pub true-at : (m n : ℕ) → m < n → ltb m n ≡ true
+true-at m n h = is-true (ltb m n) (lt→ltb m n h)
+
+pub false-at : (m n : ℕ) → n ≤ m → ltb m n ≡ false
+false-at m n h = is-false (ltb m n) (λ t. let l = ltb→lt m n t in omega arith)
+
+-- the test passes at each number below n
+abbrev pub upTo : ℕ → (ℕ → Bool) → Bool
+upTo zero g = true
+upTo (suc n) g = g n && upTo n g
+
+pub upTo-at : (n : ℕ) (g : ℕ → Bool) → T (upTo n g) → (a : ℕ) → a < n → T (g a)
+upTo-at zero g t a h = absurd (not-suc-le-zero h)
+upTo-at (suc n) g t a h = go (upTo-at n g (both-right (g n) (upTo n g) t) a) (decided (eqb a n))
+  where
+    go : (a < n → T (g a)) → T (eqb a n) ⊎ T (not (eqb a n)) → T (g a)
+    go ih (inl e) = subst⁻¹ (λ (k : ℕ). T (g k)) (eqb→eq a n e) (both-left (g n) (upTo n g) t)
+    go ih (inr e) = let ne : a ≡ n → ⊥ = (λ q. refused (eqb a n) e (eq→eqb q)) in ih (omega (arith, ne))
+
+-- the test passes at each entry of a list
+abbrev pub every : {A : Type 0} → (A → Bool) → List A → Bool
+every g [] = true
+every g (x ∷ xs) = g x && every g xs
+
+pub every-at : {A : Type 0} (g : A → Bool) (xs : List A) (d : A) → T (every g xs) → (i : ℕ) → i < length xs → T (g (getD xs i d))
+every-at g [] d t i h = absurd (not-suc-le-zero h)
+every-at g (x ∷ xs) d t zero h = both-left (g x) (every g xs) t
+every-at g (x ∷ xs) d t (suc i) h = every-at g xs d (both-right (g x) (every g xs) t) i (le-of-suc-le-suc h)

@@ -1,0 +1,117 @@
+-- Images, planes and levels: decomposing by given coverings, the choice of the coverings, and the numerators of a plane.
+-- An image, and a plane, is a function of the row and the column. Its height h and its width w are given beside it, with R levels to go.
+-- Coverings are a function of the block's number: blocks in column order, level by level. Assumes nothing.
+use mathlib.Core.Path.{_≡_}
+use mathlib.Core.Bool.{cond}
+use mathlib.Core.List.{List, [], _∷_, _++_}
+use Prim.Native.Nat.{ℕ, zero, suc, _+_, _*_, _-_, _/_, _%_, _^_, _<_}
+use lib.Dec.{ltb}
+use lib.ListN.{getD}
+use lib.IntN.{ℤ, pos, _*ℤ_}
+use Rattle.coverings.specs.Words.{wordOf}
+use Rattle.coverings.specs.Rule.{Number}
+use Rattle.block.specs.Block.{forward, inverse, pick}
+
+abbrev pub Image : Type 0
+Image = ℕ → ℕ → ℤ
+
+-- Each of R levels halves sides that are whole blocks.
+abbrev pub Fits : ℕ → ℕ → ℕ → Type 0
+Fits zero h w = Unit {0}
+Fits (suc R) h w = (h % 4 ≡ 0) × (w % 4 ≡ 0) × Fits R (h / 2) (w / 2)
+
+-- The blocks of a level.
+abbrev pub blocks : ℕ → ℕ → ℕ
+blocks h w = (w / 4) * (h / 4)
+
+-- The blocks of R levels.
+abbrev pub allBlocks : ℕ → ℕ → ℕ → ℕ
+allBlocks zero h w = 0
+allBlocks (suc R) h w = blocks h w + allBlocks R (h / 2) (w / 2)
+
+-- What R levels leave of a side.
+abbrev pub halved : ℕ → ℕ → ℕ
+halved zero h = h
+halved (suc R) h = halved R (h / 2)
+
+-- The first n coverings are numbers of coverings.
+abbrev pub Numbers : ℕ → (ℕ → ℕ) → Type 0
+Numbers n cs = (k : ℕ) → k < n → Number (cs k)
+
+-- The sixteen values of the block in block row i, block column j.
+abbrev pub blockOf : Image → ℕ → ℕ → ℕ → ℤ
+blockOf A i j k = A (i * 4 + k % 4) (j * 4 + k / 4)
+
+-- The word of that block's covering.
+abbrev pub wordAt : ℕ → (ℕ → ℕ) → ℕ → ℕ → List ℕ
+wordAt h cs i j = wordOf (cs (j * (h / 4) + i))
+
+-- The coverings behind the first n.
+abbrev pub after : ℕ → (ℕ → ℕ) → ℕ → ℕ
+after n cs k = cs (n + k)
+
+-- One level: band b at row y, column x. The result with label s of a block is at row s mod 2, column s div 2 of its 2 by 2 cells.
+abbrev pub bandsOf : ℕ → (ℕ → ℕ) → Image → ℕ → Image
+bandsOf h cs A b y x = forward (wordAt h cs (y / 2) (x / 2)) (blockOf A (y / 2) (x / 2)) b (x % 2 * 2 + y % 2)
+
+-- Where a band begins: 0 upper left, 1 upper right, 2 lower left, 3 lower right.
+abbrev pub top : ℕ → ℕ → ℕ
+top h zero = 0
+top h (suc zero) = 0
+top h (suc (suc b)) = h / 2
+
+abbrev pub left : ℕ → ℕ → ℕ
+left w zero = 0
+left w (suc zero) = w / 2
+left w (suc (suc zero)) = 0
+left w (suc (suc (suc b))) = w / 2
+
+-- The band b of a plane, and the plane with the bands B.
+abbrev pub band : ℕ → ℕ → Image → ℕ → Image
+band h w P b y x = P (top h b + y) (left w b + x)
+
+abbrev pub layout : ℕ → ℕ → (ℕ → Image) → Image
+layout h w B y x =
+    cond (ltb y (h / 2))
+    (cond (ltb x (w / 2)) (B 0 y x) (B 1 y (x - w / 2)))
+    (cond (ltb x (w / 2)) (B 2 (y - h / 2) x) (B 3 (y - h / 2) (x - w / 2)))
+
+-- The bands B with another band 0.
+abbrev pub withLow : Image → (ℕ → Image) → ℕ → Image
+withLow L B zero = L
+withLow L B (suc b) = B (suc b)
+
+-- The plane of an image by given coverings: the results of the first level replace the image, those of the other levels its low-pass.
+unfoldable pub analyse : ℕ → ℕ → ℕ → (ℕ → ℕ) → Image → Image
+analyse zero h w cs A = A
+analyse (suc R) h w cs A =
+    layout h w (withLow (analyse R (h / 2) (w / 2) (after (blocks h w) cs) (bandsOf h cs A 0)) (bandsOf h cs A))
+
+-- The values that one level of bands gives back, four times what the bands came from.
+abbrev pub mergeOf : ℕ → (ℕ → ℕ) → (ℕ → Image) → Image
+mergeOf h cs B y x =
+    inverse (wordAt h cs (y / 4) (x / 4)) (λ b s. B b (y / 4 * 2 + s % 2) (x / 4 * 2 + s / 2)) (x % 4 * 4 + y % 4)
+
+-- The numerators of a plane: W of the first of suc R levels counts 4 ^ R times.
+unfoldable pub numerators : ℕ → ℕ → ℕ → (ℕ → ℕ) → Image → Image
+numerators zero h w cs P = P
+numerators (suc R) h w cs P =
+    mergeOf h cs (withLow (numerators R (h / 2) (w / 2) (after (blocks h w) cs) P) (λ b y x. pos (4 ^ R) *ℤ band h w P b y x))
+
+-- The coverings chosen for the first n blocks of an image, in column order.
+unfoldable pub chosenTo : ℕ → Image → ℕ → List ℕ
+chosenTo h A zero = []
+chosenTo h A (suc n) =
+    let earlier = chosenTo h A n in
+    earlier ++ (pick earlier (blockOf A (n % (h / 4)) (n / (h / 4))) ∷ [])
+
+-- The coverings as a list gives them.
+abbrev pub listed : List ℕ → ℕ → ℕ
+listed l k = getD l k 0
+
+-- The coverings chosen at R levels: those of the first, then those that its low-pass gives.
+unfoldable pub covers : ℕ → ℕ → ℕ → Image → List ℕ
+covers zero h w A = []
+covers (suc R) h w A =
+    let first = chosenTo h A (blocks h w) in
+    first ++ covers R (h / 2) (w / 2) (bandsOf h (listed first) A 0)

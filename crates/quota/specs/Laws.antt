@@ -1,0 +1,42 @@
+-- The laws of Keep, with the third demand and the starred examples, as one record: what is proved of the definitions once and for all. Assumes nothing.
+use mathlib.Core.Path.{_≡_}
+use mathlib.Core.List.{List}
+use mathlib.Core.Bool.{Bool, not, cond}
+use Prim.Native.Nat.{ℕ, _*_, _<_, _≤_, min}
+use lib.Dec.{ltb}
+use lib.IntN.{pos}
+use lib.ListN.{length, getD}
+use Rattle.integers.specs.Sum.{Σℕ, only}
+use Rattle.pyramid.specs.Plane.{Image, Fits, halved}
+use Rattle.pyramid.specs.Places.{places, noPlace, at}
+use Rattle.pyramid.specs.Slices.{InRange, coversOf, planeOf}
+use Rattle.quota.specs.Quota.{stays, select, kept, entries, keptOf}
+use Rattle.quota.specs.Claim.{Demand3, Demand}
+use Rattle.quota.specs.Reckoned.{table, Agrees}
+
+-- Keep on a list q of ranks.
+pub record KeepLaws (K : ℕ) (q : List ℕ) : Type 0 where
+  -- the smaller of K and the entries that are not zero stay
+  pub count : Σℕ (length q) (λ n. cond (stays K q n) 1 0) ≡ min K (Σℕ (length q) (λ n. cond (ltb 0 (getD q n 0)) 1 0))
+  -- no other choice of at most K entries leaves out a lesser sum of squares
+  pub best : (z : ℕ → Bool) → Σℕ (length q) (λ n. cond (z n) 1 0) ≤ K
+      → Σℕ (length q) (λ n. only (not (stays K q n)) (getD q n 0 * getD q n 0)) ≤ Σℕ (length q) (λ n. only (not (z n)) (getD q n 0 * getD q n 0))
+
+-- A selection of entries by their numbers in plane order: the entry at the place with the number n is as it was, or 0, and the low-pass is as it was.
+-- With `PlaceLaws` of the crate pyramid, these two say what each entry is.
+pub record SelectLaws (R h w : ℕ) (stay : ℕ → Bool) (P : Image) : Type 0 where
+  pub tetrolet : (n : ℕ) → n < length (places R h w) → let p = getD (places R h w) n noPlace in at (select R h w stay P) p ≡ cond (stay n) (at P p) (pos 0)
+  pub low : (y x : ℕ) → y < halved R h → x < halved R w → select R h w stay P y x ≡ P y x
+
+pub record Laws : Type 0 where
+  pub keep : (K : ℕ) (q : List ℕ) → KeepLaws K q
+  pub selected : (R h w : ℕ) → Fits R h w → (stay : ℕ → Bool) (P : Image) → SelectLaws R h w stay P
+  -- Keep leaves the smaller of K and the entries before that are not zero
+  pub counted : (R h w K : ℕ) → Fits R h w → (P : Image) → entries R h w (kept R h w K P) ≡ min K (entries R h w P)
+  -- Keep leaves a plane in range
+  pub ranges : (R h w : ℕ) → Fits R h w → (K : ℕ) (P : Image) → InRange R h w P → InRange R h w (kept R h w K P)
+  -- the third demand, on images and on slices
+  pub demand3 : (R h w K : ℕ) → Fits R h w → (A : Image) → Demand3 R h w K A
+  pub demand : (R h w K : ℕ) → Fits R h w → (s : List ℕ) → Demand R h w K s (coversOf R h w s) (planeOf R h w s) (keptOf R h w K (planeOf R h w s))
+  -- the starred examples
+  pub examples : Agrees table
