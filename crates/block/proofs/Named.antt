@@ -13,7 +13,8 @@ use Rattle.integers.proofs.Sums.{Σℕ-cong, Σℕ-scale, Σℕ-swap, δ, pick-
 use Rattle.coverings.specs.Block.{cells, filter, part, nameOf, Cutting, Same}
 use Rattle.coverings.specs.Words.{words, wordOf}
 use Rattle.coverings.specs.Rule.{Number}
-use Rattle.integers.proofs.Tests.{upTo, upTo-at, eq→eqb, every, every-at}
+use Rattle.integers.specs.Lists.{every}
+use Rattle.integers.proofs.Tests.{upTo, upTo-at, eq→eqb, every-at}
 use Rattle.coverings.proofs.Table.{rule, count}
 use Rattle.block.specs.Block.{signRow, valuesOf, costOf, costNamed, shapesOf, pick}
 use Rattle.block.proofs.Words.{good}

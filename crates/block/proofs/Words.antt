@@ -12,7 +12,8 @@ use Rattle.integers.specs.Sum.{Σℕ}
 use Rattle.coverings.specs.Block.{cells, filter, nameOf}
 use Rattle.coverings.specs.Words.{words, wordOf}
 use Rattle.coverings.specs.Rule.{Number}
-use Rattle.integers.proofs.Tests.{both-left, both-right, upTo, upTo-at, every, every-at}
+use Rattle.integers.specs.Lists.{every}
+use Rattle.integers.proofs.Tests.{both-left, both-right, upTo, upTo-at, every-at}
 use Rattle.coverings.proofs.Table.{count}
 use Rattle.block.specs.Block.{shapesOf, placeIn, placeOf, labelsOf}
 use Rattle.integers.proofs.Sums.{δ}

@@ -13,7 +13,8 @@ use lib.ListN.{length, getD}
 use Rattle.coverings.specs.Block.{cells, Cutting, Shapes, Same, nameOf, Canonical, Before}
 use Rattle.coverings.specs.Words.{words, wordOf}
 use Rattle.coverings.specs.Rule.{Number, Rule}
-use Rattle.integers.proofs.Tests.{both-left, both-right, every, every-at}
+use Rattle.integers.specs.Lists.{every}
+use Rattle.integers.proofs.Tests.{both-left, both-right, every-at}
 use Rattle.coverings.proofs.Search.{search, searched}
 use Rattle.coverings.proofs.Sound.{Each, every-cutting}
 use Rattle.coverings.proofs.Shape.{numberIn, iff, cutting, cell-in}

@@ -9,6 +9,7 @@ use native.Mathlib.Nat.{not-suc-le-zero, le-of-suc-le-suc}
 use native.Mathlib.Omega.{arith}
 use lib.Dec.{T, eqb, eqb→eq, eqb-refl, ltb, ltb→lt, lt→ltb}
 use lib.ListN.{length, getD}
+use Rattle.integers.specs.Lists.{every}
 
 pub is-true : (t : Bool) → T t → t ≡ true
 is-true true h = refl
@@ -25,6 +26,10 @@ both-left false b t = t
 pub both-right : (a b : Bool) → T (a && b) → T b
 both-right true b t = t
 both-right false b t = absurd t
+
+pub both : (a b : Bool) → T a → T b → T (a && b)
+both true b s t = t
+both false b s t = s
 
 pub either : (a b : Bool) → T (a || b) → T a ⊎ T b
 either true b t = inl tt
@@ -68,12 +73,12 @@ upTo-at (suc n) g t a h = go (upTo-at n g (both-right (g n) (upTo n g) t) a) (de
     go ih (inl e) = subst⁻¹ (λ (k : ℕ). T (g k)) (eqb→eq a n e) (both-left (g n) (upTo n g) t)
     go ih (inr e) = let ne : a ≡ n → ⊥ = (λ q. refused (eqb a n) e (eq→eqb q)) in ih (omega (arith, ne))
 
--- the test passes at each entry of a list
-abbrev pub every : {A : Type 0} → (A → Bool) → List A → Bool
-every g [] = true
-every g (x ∷ xs) = g x && every g xs
-
+-- a test of each entry of a list
 pub every-at : {A : Type 0} (g : A → Bool) (xs : List A) (d : A) → T (every g xs) → (i : ℕ) → i < length xs → T (g (getD xs i d))
 every-at g [] d t i h = absurd (not-suc-le-zero h)
 every-at g (x ∷ xs) d t zero h = both-left (g x) (every g xs) t
 every-at g (x ∷ xs) d t (suc i) h = every-at g xs d (both-right (g x) (every g xs) t) i (le-of-suc-le-suc h)
+
+pub every-of : {A : Type 0} (g : A → Bool) (xs : List A) (d : A) → ((i : ℕ) → i < length xs → T (g (getD xs i d))) → T (every g xs)
+every-of g [] d f = tt
+every-of g (x ∷ xs) d f = both (g x) (every g xs) (f 0 (omega arith)) (every-of g xs d (λ i h. f (suc i) (omega arith)))

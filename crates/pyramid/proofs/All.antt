@@ -6,7 +6,7 @@ use native.Mathlib.Nat.{one-mul}
 use lib.ListN.{getD}
 use Rattle.integers.specs.Sum.{sq, total}
 use Rattle.pyramid.specs.Plane.{Fits, numerators, Numbers, allBlocks, halved}
-use Rattle.pyramid.specs.Places.{places, at, sumOver}
+use Rattle.pyramid.specs.Places.{tetroletPlaces, at, sumOver}
 use Rattle.pyramid.specs.Laws.{PyramidLaws, PlaceLaws, Laws}
 use Rattle.pyramid.proofs.Pyramid.{numerators-sub, numerators-analyse}
 use Rattle.pyramid.proofs.Energy.{lowTotal, energy}
@@ -27,7 +27,7 @@ pyramid R h w f cs ns = record {
   squares = λ P.
       sym (one-mul (total h w (λ y x. sq (numerators R h w cs P y x))))
       ∙ energy 0 R R h w (omega arith) f cs ns P
-      ∙ ap (λ (n : ℕ). 4 ^ R * n + sumOver (places R h w) (λ p. 4 ^ (2 * R - p .level) * sq (at P p))) (low-is R h w (λ y x. sq (P y x)));
+      ∙ ap (λ (n : ℕ). 4 ^ R * n + sumOver (tetroletPlaces R h w) (λ p. 4 ^ (2 * R - p .level) * sq (at P p))) (low-is R h w (λ y x. sq (P y x)));
   ranges = in-range R h w f cs;
   bounds = bounds R h w f cs ns;
 }
@@ -39,7 +39,7 @@ placed R h w f = record {
   once = λ m n k l e g.
       let i = number-place 0 R h w f m k in
       let j = number-place 0 R h w f n l in
-      let same : numberAt R h w ((getD (places R h w) m none) .down) ((getD (places R h w) m none) .across) ≡ numberAt R h w ((getD (places R h w) n none) .down) ((getD (places R h w) n none) .across) = (λ t. numberAt R h w (e t) (g t)) in
+      let same : numberAt R h w ((getD (tetroletPlaces R h w) m none) .down) ((getD (tetroletPlaces R h w) m none) .across) ≡ numberAt R h w ((getD (tetroletPlaces R h w) n none) .down) ((getD (tetroletPlaces R h w) n none) .across) = (λ t. numberAt R h w (e t) (g t)) in
       omega arith;
   cases = entry-cases 0 R h w f;
 }

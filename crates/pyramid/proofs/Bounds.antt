@@ -1,6 +1,7 @@
 -- What Keep leaves of a plane in range is in range, the numerators of a plane in range are bounded, and the plane of a picture gives its samples back. Assumes nothing.
 use mathlib.Core.Path.{_≡_, refl, sym, ap, _∙_, subst, subst⁻¹}
 use mathlib.Core.List.{List, [], _∷_, map}
+use mathlib.Core.Bool.{false}
 use Prim.Native.Nat.{ℕ, zero, suc, _+_, _*_, _-_, _/_, _%_, _^_, _≤_, _<_, min}
 use native.Mathlib.Omega.{arith}
 use native.Mathlib.Nat.{pow-succ', one-le-pow, mul-add-div-right, div-eq-of-lt, add-zero, mod-lt, div-lt-iff-lt-mul, div-add-mod', mul-le-mul-left}
@@ -11,8 +12,9 @@ use Rattle.integers.proofs.Bound.{abs-mul}
 use Rattle.coverings.specs.Block.{nameOf}
 use Rattle.block.specs.Block.{labelsOf, inverse}
 use Rattle.pyramid.specs.Plane.{Image, Fits, blocks, after, wordAt, band, withLow, mergeOf, analyse, numerators, listed, Numbers, allBlocks, halved}
-use Rattle.pyramid.specs.Places.{places, placesFrom, at}
-use Rattle.pyramid.specs.Slices.{InRange, imageOf, pictureOf, coversOf, planeOf, numeratorsOf, sampleOf, samplesOf}
+use Rattle.pyramid.specs.Places.{tetroletPlaces, placesFrom, at}
+use Rattle.pyramid.specs.Slices.{imageOf, pictureOf, coversOf, planeOf, numeratorsOf, sampleOf, samplesOf}
+use Rattle.pyramid.specs.Ranges.{InRange}
 use Rattle.block.proofs.Words.{Good, labelIn}
 use Rattle.pyramid.proofs.Levels.{good-at}
 use Rattle.pyramid.proofs.Pyramid.{first-numbers, other-numbers, numerators-cong, numerators-analyse}
@@ -25,14 +27,14 @@ use Rattle.block.proofs.Blocks.{inverse-abs}
 -- d levels are done, R are left, and T are all: c bounds the low-pass, and twice each W as it is counted
 bounded : (d R T h w c : ℕ) → d + R ≡ T → Fits R h w → (cs : ℕ → ℕ) → Numbers (allBlocks R h w) cs → (P : Image)
     → ((y x : ℕ) → y < halved R h → x < halved R w → natAbs (P y x) ≤ c)
-    → All (λ n p. 2 * (4 ^ (T - p .level) * natAbs (at P p)) ≤ c) (placesFrom d R h w)
+    → All (λ n p. 2 * (4 ^ (T - p .level) * natAbs (at P p)) ≤ c) (placesFrom false d R h w)
     → (y x : ℕ) → y < h → x < w → 2 * natAbs (numerators R h w cs P y x) ≤ c * (2 + 3 * R)
 unfolding numerators
 bounded d zero T h w c e f cs ns P low tet y x k l = omega (arith, low y x k l)
 bounded d (suc R) T h w c e f cs ns P low tet y x k l =
     merged (λ y x p q. bounded (suc d) R T (h / 2) (w / 2) c (omega arith) (f .2) (after (blocks h w) cs) (other-numbers {cs = cs} R h w ns) P low (o .1) y x p q)
   where
-    o : ((b y x : ℕ) → b < 3 → y < h / 2 → x < w / 2 → 2 * (4 ^ (T - suc d) * natAbs (band h w P (suc b) y x)) ≤ c) × All (λ n p. 2 * (4 ^ (T - p .level) * natAbs (at P p)) ≤ c) (placesFrom (suc d) R (h / 2) (w / 2))
+    o : ((b y x : ℕ) → b < 3 → y < h / 2 → x < w / 2 → 2 * (4 ^ (T - suc d) * natAbs (band h w P (suc b) y x)) ≤ c) × All (λ n p. 2 * (4 ^ (T - p .level) * natAbs (at P p)) ≤ c) (placesFrom false (suc d) R (h / 2) (w / 2))
     o = of-places (λ p. 2 * (4 ^ (T - p .level) * natAbs (at P p)) ≤ c) d R h w tet
 
     B : ℕ → Image
@@ -83,8 +85,8 @@ bounds R h w f cs ns P r = bounded 0 R R h w (4095 * 4 ^ R) (omega arith) f cs n
     low : (y x : ℕ) → y < halved R h → x < halved R w → natAbs (P y x) ≤ 4095 * 4 ^ R
     low y x k l = let q = r .low y x k l in subst⁻¹ (λ (z : ℤ). natAbs z ≤ 4095 * 4 ^ R) (q .1) (q .2)
 
-    tet : All (λ n p. 2 * (4 ^ (R - p .level) * natAbs (at P p)) ≤ 4095 * 4 ^ R) (places R h w)
-    tet n l = go ((getD (places R h w) n none) .level) (natAbs (at P (getD (places R h w) n none))) (places-levels 0 R R h w (omega arith) n l) (r .tetrolet n l)
+    tet : All (λ n p. 2 * (4 ^ (R - p .level) * natAbs (at P p)) ≤ 4095 * 4 ^ R) (tetroletPlaces R h w)
+    tet n l = go ((getD (tetroletPlaces R h w) n none) .level) (natAbs (at P (getD (tetroletPlaces R h w) n none))) (places-levels 0 R R h w (omega arith) n l) (r .tetrolet n l)
       where
         go : (v a : ℕ) → (0 < v) × (v ≤ R) → a ≤ 2 * 4 ^ (v - 1) * 4095 → 2 * (4 ^ (R - v) * a) ≤ 4095 * 4 ^ R
         go zero a i b = absurd (omega arith)

@@ -1,5 +1,6 @@
 -- The squares of the numerators of a plane: 4 ^ R times those of the low-pass, and 4 ^ (2R - r) times those of the tetrolet entries of each level r. Assumes nothing.
 use mathlib.Core.Path.{_≡_, sym, ap, _∙_, subst}
+use mathlib.Core.Bool.{false}
 use Prim.Native.Nat.{ℕ, zero, suc, _+_, _*_, _-_, _/_, _^_, _<_}
 use native.Mathlib.Omega.{arith}
 use native.Mathlib.Nat.{pow-succ', pow-zero, add-zero, add-suc, mul-one}
@@ -38,14 +39,14 @@ sq-scale c z = rw (abs-mul (pos c) z) (omega arith)
 -- d levels are done, R are left, and T are all
 pub energy : (d R T h w : ℕ) → d + R ≡ T → Fits R h w → (cs : ℕ → ℕ) → Numbers (allBlocks R h w) cs → (P : Image)
     → 4 ^ d * total h w (λ y x. sq (numerators R h w cs P y x))
-    ≡ 4 ^ T * lowTotal R h w (λ y x. sq (P y x)) + sumOver (placesFrom d R h w) (λ p. 4 ^ (2 * T - p .level) * sq (at P p))
+    ≡ 4 ^ T * lowTotal R h w (λ y x. sq (P y x)) + sumOver (placesFrom false d R h w) (λ p. 4 ^ (2 * T - p .level) * sq (at P p))
 unfolding numerators placesFrom
 energy d zero T h w e f cs ns P =
     let q : d ≡ T = omega arith in
     ap (λ (n : ℕ). 4 ^ n * total h w (λ y x. sq (P y x))) q ∙ sym (add-zero (4 ^ T * total h w (λ y x. sq (P y x))))
 energy d (suc R) T h w e f cs ns P =
     go (4 ^ d) (4 ^ R) (4 ^ suc d) (total (h / 2) (w / 2) (λ y x. sq (numerators R (h / 2) (w / 2) (after (blocks h w) cs) P y x))) (4 ^ T * lowTotal R (h / 2) (w / 2) (λ y x. sq (P y x)))
-    (sumOver (placesFrom (suc d) R (h / 2) (w / 2)) weighted) (4 ^ (2 * T - suc d)) (pow-succ' 4 d) weight
+    (sumOver (placesFrom false (suc d) R (h / 2) (w / 2)) weighted) (4 ^ (2 * T - suc d)) (pow-succ' 4 d) weight
     (energy (suc d) R T (h / 2) (w / 2) (omega arith) (f .2) (after (blocks h w) cs) (other-numbers {cs = cs} R h w ns) P)
     (λ b. total (h / 2) (w / 2) (λ y x. sq (pos (4 ^ R) *ℤ band h w P (suc b) y x))) (λ b. total (h / 2) (w / 2) (λ y x. sq (band h w P (suc b) y x))) (λ b. total (h / 2) (w / 2) (λ y x. 4 ^ (2 * T - suc d) * sq (band h w P (suc b) y x)))
     (merge-squares h w (f .0) (f .1) cs (first-numbers {cs = cs} R h w ns) B)
@@ -87,11 +88,11 @@ energy d (suc R) T h w e f cs ns P =
 
 -- the weights are 4 ^ T times those of the ranks
 pub factor : (d R T h w : ℕ) → d + R ≡ T → (g : Place → ℕ)
-    → sumOver (placesFrom d R h w) (λ p. 4 ^ (2 * T - p .level) * g p) ≡ 4 ^ T * sumOver (placesFrom d R h w) (λ p. 4 ^ (T - p .level) * g p)
+    → sumOver (placesFrom false d R h w) (λ p. 4 ^ (2 * T - p .level) * g p) ≡ 4 ^ T * sumOver (placesFrom false d R h w) (λ p. 4 ^ (T - p .level) * g p)
 unfolding placesFrom
 factor d zero T h w e g = sym (omega arith)
 factor d (suc R) T h w e g =
-    go (sumOver (placesFrom (suc d) R (h / 2) (w / 2)) (λ p. 4 ^ (T - p .level) * g p)) (Σℕ 3 (λ b. total (h / 2) (w / 2) (λ y x. 4 ^ (T - suc d) * g (placeAt h w (suc d) (suc b) y x)))) (sum-places d R h w (λ p. 4 ^ (2 * T - p .level) * g p)) (sum-places d R h w (λ p. 4 ^ (T - p .level) * g p))
+    go (sumOver (placesFrom false (suc d) R (h / 2) (w / 2)) (λ p. 4 ^ (T - p .level) * g p)) (Σℕ 3 (λ b. total (h / 2) (w / 2) (λ y x. 4 ^ (T - suc d) * g (placeAt h w (suc d) (suc b) y x)))) (sum-places d R h w (λ p. 4 ^ (2 * T - p .level) * g p)) (sum-places d R h w (λ p. 4 ^ (T - p .level) * g p))
     (factor (suc d) R T (h / 2) (w / 2) (omega arith) g)
     (Σℕ-cong 3 (λ b. total (h / 2) (w / 2) (λ y x. 4 ^ (2 * T - suc d) * g (placeAt h w (suc d) (suc b) y x))) (λ b. 4 ^ T * total (h / 2) (w / 2) (λ y x. 4 ^ (T - suc d) * g (placeAt h w (suc d) (suc b) y x)))
     (λ b l. total-cong (h / 2) (w / 2) (λ y x. 4 ^ (2 * T - suc d) * g (placeAt h w (suc d) (suc b) y x)) (λ y x. 4 ^ T * (4 ^ (T - suc d) * g (placeAt h w (suc d) (suc b) y x))) (λ y x k m. one (g (placeAt h w (suc d) (suc b) y x)))

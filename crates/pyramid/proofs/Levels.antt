@@ -136,10 +136,10 @@ pub merge-scale : (h : ℕ) (cs : ℕ → ℕ) (c : ℤ) (B : ℕ → Image) (y 
 merge-scale h cs c B y x = inverse-scale (wordAt h cs (y / 4) (x / 4)) c (λ b s. B b (y / 4 * 2 + s % 2) (x / 4 * 2 + s / 2)) (x % 4 * 4 + y % 4)
 
 -- the band of a plane is the band that was laid out
-pub layout-low : (h w : ℕ) (B : ℕ → Image) (y x : ℕ) → y < h / 2 → x < w / 2 → layout h w B y x ≡ B 0 y x
+pub layout-low : {A : Type 0} (h w : ℕ) (B : ℕ → ℕ → ℕ → A) (y x : ℕ) → y < h / 2 → x < w / 2 → layout h w B y x ≡ B 0 y x
 layout-low h w B y x a b = rw (true-at y (h / 2) a, true-at x (w / 2) b) refl
 
-pub layout-band : (h w : ℕ) (B : ℕ → Image) (b y x : ℕ) → b < 4 → y < h / 2 → x < w / 2 → band h w (layout h w B) b y x ≡ B b y x
+pub layout-band : {A : Type 0} (h w : ℕ) (B : ℕ → ℕ → ℕ → A) (b y x : ℕ) → b < 4 → y < h / 2 → x < w / 2 → band h w (layout h w B) b y x ≡ B b y x
 layout-band h w B zero y x c a d = rw (true-at (0 + y) (h / 2) (omega arith), true-at (0 + x) (w / 2) (omega arith)) (λ t. B 0 (e₁ t) (e₂ t))
   where
     e₁ : 0 + y ≡ y

@@ -2,7 +2,7 @@
 -- What a loop along the places needs. Assumes nothing.
 use mathlib.Core.Path.{_≡_, refl, ap, _∙_, subst⁻¹}
 use mathlib.Core.Logic.{_⊎_, inl, inr}
-use mathlib.Core.Bool.{cond}
+use mathlib.Core.Bool.{cond, false}
 use Prim.Native.Nat.{ℕ, zero, suc, _+_, _*_, _-_, _/_, _%_, _<_}
 use native.Mathlib.Omega.{arith}
 use native.Mathlib.Decide.{decLt}
@@ -60,7 +60,7 @@ unfolding numberAt
 number-low R h w y x k l = rw (true-at y (h / 2) k, true-at x (w / 2) l) refl
 
 -- the place with the number n has the number n: no two places are one entry
-pub number-place : (d R h w : ℕ) → Fits R h w → All (λ n p. numberAt R h w (p .down) (p .across) ≡ suc n) (placesFrom d R h w)
+pub number-place : (d R h w : ℕ) → Fits R h w → All (λ n p. numberAt R h w (p .down) (p .across) ≡ suc n) (placesFrom false d R h w)
 unfolding placesFrom
 number-place d zero h w f = λ n l. absurd (omega arith)
 number-place d (suc R) h w f =
@@ -68,19 +68,19 @@ number-place d (suc R) h w f =
     (λ b y x c k l. number-band R h w b y x c k l)
     (deeper (number-place (suc d) R (h / 2) (w / 2) (f .2)))
   where
-    deeper : All (λ n p. numberAt R (h / 2) (w / 2) (p .down) (p .across) ≡ suc n) (placesFrom (suc d) R (h / 2) (w / 2))
-        → All (λ n p. numberAt (suc R) h w (p .down) (p .across) ≡ suc (size h w + (size h w + (size h w + n)))) (placesFrom (suc d) R (h / 2) (w / 2))
+    deeper : All (λ n p. numberAt R (h / 2) (w / 2) (p .down) (p .across) ≡ suc n) (placesFrom false (suc d) R (h / 2) (w / 2))
+        → All (λ n p. numberAt (suc R) h w (p .down) (p .across) ≡ suc (size h w + (size h w + (size h w + n)))) (placesFrom false (suc d) R (h / 2) (w / 2))
     deeper g n l =
         let i = places-inside (suc d) R (h / 2) (w / 2) (f .2) n l in
-        let p = getD (placesFrom (suc d) R (h / 2) (w / 2)) n none in
+        let p = getD (placesFrom false (suc d) R (h / 2) (w / 2)) n none in
         number-low R h w (p .down) (p .across) (i .0) (i .1) ∙ ap (λ (m : ℕ). later (size h w) m) (g n l)
 
 -- how many tetrolet entries there are
-pub places-count : (d R h w : ℕ) → Fits R h w → length (placesFrom d R h w) + halved R w * halved R h ≡ w * h
+pub places-count : (d R h w : ℕ) → Fits R h w → length (placesFrom false d R h w) + halved R w * halved R h ≡ w * h
 unfolding placesFrom
 places-count d zero h w f = omega arith
 places-count d (suc R) h w f =
-    sum (w / 2) (h / 2) (length (placesFrom (suc d) R (h / 2) (w / 2))) (halved R (w / 2) * halved R (h / 2)) (length-places d R h w) (places-count (suc d) R (h / 2) (w / 2) (f .2)) (whole w (f .1)) (whole h (f .0))
+    sum (w / 2) (h / 2) (length (placesFrom false (suc d) R (h / 2) (w / 2))) (halved R (w / 2) * halved R (h / 2)) (length-places d R h w) (places-count (suc d) R (h / 2) (w / 2) (f .2)) (whole w (f .1)) (whole h (f .0))
   where
     whole : (m : ℕ) → m % 4 ≡ 0 → m ≡ 2 * (m / 2)
     whole m e = omega arith
@@ -90,17 +90,17 @@ places-count d (suc R) h w f =
 
 -- each entry is of the low-pass or is a place
 pub entry-cases : (d R h w : ℕ) → Fits R h w → (y x : ℕ) → y < h → x < w
-    → ((y < halved R h) × (x < halved R w)) ⊎ ((n : ℕ) × (n < length (placesFrom d R h w)) × ((getD (placesFrom d R h w) n none) .down ≡ y) × ((getD (placesFrom d R h w) n none) .across ≡ x))
+    → ((y < halved R h) × (x < halved R w)) ⊎ ((n : ℕ) × (n < length (placesFrom false d R h w)) × ((getD (placesFrom false d R h w) n none) .down ≡ y) × ((getD (placesFrom false d R h w) n none) .across ≡ x))
 entry-cases d zero h w f y x k l = inl (k, l)
 entry-cases d (suc R) h w f y x k l = go (decLt y (h / 2)) (decLt x (w / 2)) (entry-cases (suc d) R (h / 2) (w / 2) (f .2) y x)
   where
     n′ : ℕ
-    n′ = length (placesFrom (suc d) R (h / 2) (w / 2))
+    n′ = length (placesFrom false (suc d) R (h / 2) (w / 2))
 
     Found : Type 0
-    Found = (n : ℕ) × (n < length (placesFrom d (suc R) h w)) × ((getD (placesFrom d (suc R) h w) n none) .down ≡ y) × ((getD (placesFrom d (suc R) h w) n none) .across ≡ x)
+    Found = (n : ℕ) × (n < length (placesFrom false d (suc R) h w)) × ((getD (placesFrom false d (suc R) h w) n none) .down ≡ y) × ((getD (placesFrom false d (suc R) h w) n none) .across ≡ x)
 
-    below : (b m : ℕ) → b < 3 → m < size h w → b * size h w + m < length (placesFrom d (suc R) h w)
+    below : (b m : ℕ) → b < 3 → m < size h w → b * size h w + m < length (placesFrom false d (suc R) h w)
     below b m c l = subst⁻¹ (λ (t : ℕ). b * size h w + m < t) (length-places d R h w) (on b c)
       where
         on : (b : ℕ) → b < 3 → b * size h w + m < size h w + (size h w + (size h w + n′))
@@ -118,11 +118,11 @@ entry-cases d (suc R) h w f y x k l = go (decLt y (h / 2)) (decLt x (w / 2)) (en
     )
 
     go : Dec (y < h / 2) → Dec (x < w / 2)
-        → (y < h / 2 → x < w / 2 → ((y < halved R (h / 2)) × (x < halved R (w / 2))) ⊎ ((n : ℕ) × (n < n′) × ((getD (placesFrom (suc d) R (h / 2) (w / 2)) n none) .down ≡ y) × ((getD (placesFrom (suc d) R (h / 2) (w / 2)) n none) .across ≡ x)))
+        → (y < h / 2 → x < w / 2 → ((y < halved R (h / 2)) × (x < halved R (w / 2))) ⊎ ((n : ℕ) × (n < n′) × ((getD (placesFrom false (suc d) R (h / 2) (w / 2)) n none) .down ≡ y) × ((getD (placesFrom false (suc d) R (h / 2) (w / 2)) n none) .across ≡ x)))
         → ((y < halved R (h / 2)) × (x < halved R (w / 2))) ⊎ Found
     go (yes a) (yes b) ih = on (ih a b)
       where
-        on : ((y < halved R (h / 2)) × (x < halved R (w / 2))) ⊎ ((n : ℕ) × (n < n′) × ((getD (placesFrom (suc d) R (h / 2) (w / 2)) n none) .down ≡ y) × ((getD (placesFrom (suc d) R (h / 2) (w / 2)) n none) .across ≡ x)) → ((y < halved R (h / 2)) × (x < halved R (w / 2))) ⊎ Found
+        on : ((y < halved R (h / 2)) × (x < halved R (w / 2))) ⊎ ((n : ℕ) × (n < n′) × ((getD (placesFrom false (suc d) R (h / 2) (w / 2)) n none) .down ≡ y) × ((getD (placesFrom false (suc d) R (h / 2) (w / 2)) n none) .across ≡ x)) → ((y < halved R (h / 2)) × (x < halved R (w / 2))) ⊎ Found
         on (inl i) = inl i
         on (inr r) = inr (
           size h w + (size h w + (size h w + r .0)),

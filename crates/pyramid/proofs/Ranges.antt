@@ -1,6 +1,7 @@
 -- Ranges of the plane of a picture, and the sides that R levels fit. Assumes nothing.
 use mathlib.Core.Path.{_≡_, sym, ap, _∙_, subst}
 use mathlib.Core.List.{[], _∷_}
+use mathlib.Core.Bool.{false}
 use Prim.Native.Nat.{ℕ, zero, suc, _+_, _*_, _-_, _/_, _%_, _^_, _≤_, _<_}
 use native.Mathlib.Omega.{arith}
 use native.Mathlib.Nat.{pow-succ', pow-zero, mul-one, le-refl}
@@ -12,8 +13,8 @@ use Rattle.integers.proofs.Lin.{rep-ev}
 use Rattle.coverings.specs.Block.{cells, filter}
 use Rattle.block.specs.Block.{signRow, valuesOf, shapesOf, placeIn, labelsOf, forward}
 use Rattle.pyramid.specs.Plane.{Image, Fits, blocks, blockOf, wordAt, after, bandsOf, band, layout, withLow, analyse, halved}
-use Rattle.pyramid.specs.Places.{places, placesFrom, at}
-use Rattle.pyramid.specs.Slices.{InRange}
+use Rattle.pyramid.specs.Places.{tetroletPlaces, placesFrom, at}
+use Rattle.pyramid.specs.Ranges.{InRange}
 use Rattle.pyramid.proofs.Levels.{layout-low, layout-band}
 use Rattle.block.proofs.Pick.{shape-below}
 use Rattle.pyramid.proofs.Places.{none, All, all-places, places-inside}
@@ -72,7 +73,7 @@ Low R h w m P = (y x : ℕ) → y < halved R h → x < halved R w → Upto m (P 
 
 -- β is the bound of each level
 analyse-range : (d R h w m : ℕ) → Fits R h w → (cs : ℕ → ℕ) (A : Image) → ((y x : ℕ) → y < h → x < w → Upto m (A y x)) → (β : ℕ → ℕ) → ((k : ℕ) → k < R → β (suc d + k) ≡ 2 * (m * 4 ^ k))
-    → Low R h w (m * 4 ^ R) (analyse R h w cs A) × All (λ n p. natAbs (at (analyse R h w cs A) p) ≤ β (p .level)) (placesFrom d R h w)
+    → Low R h w (m * 4 ^ R) (analyse R h w cs A) × All (λ n p. natAbs (at (analyse R h w cs A) p) ≤ β (p .level)) (placesFrom false d R h w)
 unfolding analyse placesFrom
 analyse-range d zero h w m f cs A a β e = ((λ y x k l. subst (λ (n : ℕ). Upto n (A y x)) (sym (ap (λ (n : ℕ). m * n) (pow-zero 4) ∙ mul-one m)) (a y x k l)), (λ n l. absurd (omega arith)))
 analyse-range d (suc R) h w m f cs A a β e =
@@ -104,8 +105,8 @@ analyse-range d (suc R) h w m f cs A a β e =
         move : (n : ℕ) → 4 * m * n ≡ m * (4 * n)
         move n = omega arith
 
-    go : Low R (h / 2) (w / 2) (4 * m * 4 ^ R) L × All (λ n p. natAbs (at L p) ≤ β (p .level)) (placesFrom (suc d) R (h / 2) (w / 2))
-        → Low (suc R) h w (m * 4 ^ suc R) P × All (λ n p. natAbs (at P p) ≤ β (p .level)) (placesFrom d (suc R) h w)
+    go : Low R (h / 2) (w / 2) (4 * m * 4 ^ R) L × All (λ n p. natAbs (at L p) ≤ β (p .level)) (placesFrom false (suc d) R (h / 2) (w / 2))
+        → Low (suc R) h w (m * 4 ^ suc R) P × All (λ n p. natAbs (at P p) ≤ β (p .level)) (placesFrom false d (suc R) h w)
     go ih = (
       (λ y x k l.
           subst (λ (z : ℤ). Upto (m * 4 ^ suc R) z) (sym (layout-low h w (withLow L (bandsOf h cs A)) y x (omega (arith, halved-le R (h / 2))) (omega (arith, halved-le R (w / 2)))))
@@ -116,7 +117,7 @@ analyse-range d (suc R) h w m f cs A a β e =
           (subst (λ (z : ℤ). natAbs z ≤ 2 * m) (sym (layout-band h w (withLow L (bandsOf h cs A)) (suc b) y x (omega arith) k l)) (bands-high h w m (f .0) (f .1) cs A a b y x k l)))
           (λ n l.
           let i = places-inside (suc d) R (h / 2) (w / 2) (f .2) n l in
-          let p = getD (placesFrom (suc d) R (h / 2) (w / 2)) n none in
+          let p = getD (placesFrom false (suc d) R (h / 2) (w / 2)) n none in
           subst (λ (z : ℤ). natAbs z ≤ β (p .level)) (sym (layout-low h w (withLow L (bandsOf h cs A)) (p .down) (p .across) (i .0) (i .1))) ((ih .1) n l)),
     )
 
@@ -131,7 +132,7 @@ in-range R h w f cs A a = record { low = r .0; tetrolet = r .1 }
         move : (n : ℕ) → 2 * n * 4095 ≡ 2 * (4095 * n)
         move n = omega arith
 
-    r : Low R h w (4095 * 4 ^ R) (analyse R h w cs A) × All (λ n p. natAbs (at (analyse R h w cs A) p) ≤ 2 * 4 ^ (p .level - 1) * 4095) (places R h w)
+    r : Low R h w (4095 * 4 ^ R) (analyse R h w cs A) × All (λ n p. natAbs (at (analyse R h w cs A) p) ≤ 2 * 4 ^ (p .level - 1) * 4095) (tetroletPlaces R h w)
     r = analyse-range 0 R h w 4095 f cs A a (λ l. 2 * 4 ^ (l - 1) * 4095) (λ k l. bound k)
 
 -- a side that is a power of two

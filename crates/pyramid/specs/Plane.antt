@@ -67,17 +67,17 @@ left w (suc (suc zero)) = 0
 left w (suc (suc (suc b))) = w / 2
 
 -- The band b of a plane, and the plane with the bands B.
-abbrev pub band : ℕ → ℕ → Image → ℕ → Image
+abbrev pub band : {A : Type 0} → ℕ → ℕ → (ℕ → ℕ → A) → ℕ → ℕ → ℕ → A
 band h w P b y x = P (top h b + y) (left w b + x)
 
-abbrev pub layout : ℕ → ℕ → (ℕ → Image) → Image
+abbrev pub layout : {A : Type 0} → ℕ → ℕ → (ℕ → ℕ → ℕ → A) → ℕ → ℕ → A
 layout h w B y x =
     cond (ltb y (h / 2))
     (cond (ltb x (w / 2)) (B 0 y x) (B 1 y (x - w / 2)))
     (cond (ltb x (w / 2)) (B 2 (y - h / 2) x) (B 3 (y - h / 2) (x - w / 2)))
 
 -- The bands B with another band 0.
-abbrev pub withLow : Image → (ℕ → Image) → ℕ → Image
+abbrev pub withLow : {A : Type 0} → (ℕ → ℕ → A) → (ℕ → ℕ → ℕ → A) → ℕ → ℕ → ℕ → A
 withLow L B zero = L
 withLow L B (suc b) = B (suc b)
 

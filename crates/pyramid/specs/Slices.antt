@@ -5,9 +5,9 @@ use Prim.Native.Nat.{ℕ, _+_, _*_, _-_, _/_, _%_, _^_, _<_, _≤_, min}
 use lib.IntN.{ℤ, pos, negsuc, natAbs, _+ℤ_, _*ℤ_}
 use lib.ListN.{length, getD}
 use lib.Signed.{shrZ}
-use Rattle.integers.specs.Tabulate.{tabulate}
+use Rattle.integers.specs.Lists.{tabulate}
 use Rattle.pyramid.specs.Plane.{Image, halved, analyse, numerators, listed, covers}
-use Rattle.pyramid.specs.Places.{places, noPlace, at}
+use Rattle.pyramid.specs.Places.{tetroletPlaces, noPlace, at}
 
 -- A slice of h by w numbers, stored down columns, as an image, and back.
 abbrev pub imageOf : ℕ → List ℤ → Image
@@ -40,8 +40,3 @@ sampleOf R y = held (shrZ (pos 2 *ℤ y +ℤ pos (4 ^ R)) (2 * 4 ^ R))
 
 abbrev pub samplesOf : ℕ → ℕ → ℕ → List ℕ → List ℤ → List ℕ
 samplesOf R h w cs p = map (sampleOf R) (numeratorsOf R h w cs p)
-
--- The ranges of a plane: low 0 to 4095 times 4 ^ R, a level-r W within 2 times 4 ^ (r - 1) times 4095 either side of zero.
-pub record InRange (R h w : ℕ) (P : Image) : Type 0 where
-  pub low : (y x : ℕ) → y < halved R h → x < halved R w → (n : ℕ) × (P y x ≡ pos n) × (n ≤ 4095 * 4 ^ R)
-  pub tetrolet : (k : ℕ) → k < length (places R h w) → let p = getD (places R h w) k noPlace in natAbs (at P p) ≤ 2 * 4 ^ (p .level - 1) * 4095

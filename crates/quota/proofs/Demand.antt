@@ -13,7 +13,7 @@ use Rattle.integers.specs.Sum.{Σℕ, only, sq, total}
 use Rattle.integers.proofs.Sums.{Σℕ-cong}
 use Rattle.integers.proofs.Tests.{is-false}
 use Rattle.pyramid.specs.Plane.{Image, Fits, analyse, numerators, listed, covers, Numbers, allBlocks}
-use Rattle.pyramid.specs.Places.{Place, places, at, sumOver}
+use Rattle.pyramid.specs.Places.{Place, tetroletPlaces, at, sumOver}
 use Rattle.quota.specs.Quota.{rankOf, ranks, stays, kept, isZero, entries}
 use Rattle.quota.specs.Claim.{distance, Demand3}
 use Rattle.pyramid.proofs.Pyramid.{numerators-sub, numerators-analyse}
@@ -35,7 +35,7 @@ module _ (R h w : ℕ) (f : Fits R h w) (cs : ℕ → ℕ) (ns : Numbers (allBlo
 
   pub distance-is : (Q : Image)
       → distance R h w cs A Q
-      ≡ 4 ^ R * lowTotal R h w (λ y x. sq (Q y x -ℤ own y x)) + sumOver (places R h w) (λ p. 4 ^ (2 * R - p .level) * sq (at Q p -ℤ at own p))
+      ≡ 4 ^ R * lowTotal R h w (λ y x. sq (Q y x -ℤ own y x)) + sumOver (tetroletPlaces R h w) (λ p. 4 ^ (2 * R - p .level) * sq (at Q p -ℤ at own p))
   distance-is Q =
       total-cong h w (λ y x. sq (numerators R h w cs Q y x -ℤ pos (4 ^ R) *ℤ A y x)) (λ y x. sq (numerators R h w cs (λ y x. Q y x -ℤ own y x) y x))
       (λ y x k l. ap sq (sym (numerators-sub R h w cs Q own y x ∙ ap (λ (z : ℤ). numerators R h w cs Q y x -ℤ z) (numerators-analyse R h w f cs ns A y x k l))))
@@ -77,7 +77,7 @@ only-mul false c x = omega arith
 
 module _ (R h w : ℕ) (f : Fits R h w) (K : ℕ) (P : Image) where
   abbrev ps : List Place
-  ps = places R h w
+  ps = tetroletPlaces R h w
 
   abbrev q : List ℕ
   q = ranks R h w P
@@ -170,19 +170,19 @@ module _ (R h w : ℕ) (f : Fits R h w) (cs : ℕ → ℕ) (ns : Numbers (allBlo
   abbrev S₀ : Image
   S₀ = kept R h w K P₀
 
-  kept-distance : distance R h w cs A S₀ ≡ sumOver (places R h w) (λ p. 4 ^ (2 * R - p .level) * only (isZero (at S₀ p)) (sq (at P₀ p)))
+  kept-distance : distance R h w cs A S₀ ≡ sumOver (tetroletPlaces R h w) (λ p. 4 ^ (2 * R - p .level) * only (isZero (at S₀ p)) (sq (at P₀ p)))
   kept-distance =
       distance-is R h w f cs ns A S₀
-      ∙ ap (λ (x : ℕ). 4 ^ R * x + sumOver (places R h w) (λ p. 4 ^ (2 * R - p .level) * sq (at S₀ p -ℤ at P₀ p))) (low-selected R h w (stays K (ranks R h w P₀)) P₀ S₀ (λ y x k l. refl))
-      ∙ no-low (sumOver (places R h w) (λ p. 4 ^ (2 * R - p .level) * sq (at S₀ p -ℤ at P₀ p)))
-      ∙ sum-cong (places R h w) (λ p. 4 ^ (2 * R - p .level) * sq (at S₀ p -ℤ at P₀ p)) (λ p. 4 ^ (2 * R - p .level) * only (isZero (at S₀ p)) (sq (at P₀ p)))
-      (λ n l. ap (λ (x : ℕ). 4 ^ (2 * R - (getD (places R h w) n none) .level) * x) (out-is R h w f K P₀ n l))
+      ∙ ap (λ (x : ℕ). 4 ^ R * x + sumOver (tetroletPlaces R h w) (λ p. 4 ^ (2 * R - p .level) * sq (at S₀ p -ℤ at P₀ p))) (low-selected R h w (stays K (ranks R h w P₀)) P₀ S₀ (λ y x k l. refl))
+      ∙ no-low (sumOver (tetroletPlaces R h w) (λ p. 4 ^ (2 * R - p .level) * sq (at S₀ p -ℤ at P₀ p)))
+      ∙ sum-cong (tetroletPlaces R h w) (λ p. 4 ^ (2 * R - p .level) * sq (at S₀ p -ℤ at P₀ p)) (λ p. 4 ^ (2 * R - p .level) * only (isZero (at S₀ p)) (sq (at P₀ p)))
+      (λ n l. ap (λ (x : ℕ). 4 ^ (2 * R - (getD (tetroletPlaces R h w) n none) .level) * x) (out-is R h w f K P₀ n l))
     where
       no-low : (x : ℕ) → 4 ^ R * 0 + x ≡ x
       no-low x = omega arith
 
-  pub kept-exact : distance R h w cs A S₀ ≡ sumOver (places R h w) (λ p. only (not (isZero (at P₀ p)) && isZero (at S₀ p)) (4 ^ (2 * R - p .level) * sq (at P₀ p)))
-  kept-exact = kept-distance ∙ sum-cong (places R h w) (λ p. 4 ^ (2 * R - p .level) * only (isZero (at S₀ p)) (sq (at P₀ p))) (λ p. only (not (isZero (at P₀ p)) && isZero (at S₀ p)) (4 ^ (2 * R - p .level) * sq (at P₀ p))) (λ n l. dropped-is R h w f K P₀ (getD (places R h w) n none))
+  pub kept-exact : distance R h w cs A S₀ ≡ sumOver (tetroletPlaces R h w) (λ p. only (not (isZero (at P₀ p)) && isZero (at S₀ p)) (4 ^ (2 * R - p .level) * sq (at P₀ p)))
+  kept-exact = kept-distance ∙ sum-cong (tetroletPlaces R h w) (λ p. 4 ^ (2 * R - p .level) * only (isZero (at S₀ p)) (sq (at P₀ p))) (λ p. only (not (isZero (at P₀ p)) && isZero (at S₀ p)) (4 ^ (2 * R - p .level) * sq (at P₀ p))) (λ n l. dropped-is R h w f K P₀ (getD (tetroletPlaces R h w) n none))
 
   pub kept-nearest : (Q : Image) → entries R h w Q ≤ K → distance R h w cs A S₀ ≤ distance R h w cs A Q
   kept-nearest Q e =
@@ -194,7 +194,7 @@ module _ (R h w : ℕ) (f : Fits R h w) (cs : ℕ → ℕ) (ns : Numbers (allBlo
       (sum-mono ps₀ (λ p. 4 ^ (2 * R - p .level) * only (isZero (at Q p)) (sq (at P₀ p))) (λ p. 4 ^ (2 * R - p .level) * sq (at Q p -ℤ at P₀ p)) (λ p. mul-le-mul-left (4 ^ (2 * R - p .level)) (sub-zero (at Q p) (at P₀ p))))))))
     where
       ps₀ : List Place
-      ps₀ = places R h w
+      ps₀ = tetroletPlaces R h w
 
       qs : List ℕ
       qs = ranks R h w P₀

@@ -12,7 +12,7 @@ use Rattle.integers.specs.Sum.{Σℕ, only, sq}
 use Rattle.integers.proofs.Sums.{Σℕ-cong, Σℕ-blocks}
 use Rattle.integers.proofs.Tests.{is-true, is-false}
 use Rattle.pyramid.specs.Plane.{Image, Fits, analyse, numerators, listed, Numbers, allBlocks}
-use Rattle.pyramid.specs.Places.{Place, places, at}
+use Rattle.pyramid.specs.Places.{Place, tetroletPlaces, at}
 use Rattle.quota.specs.Quota.{rankOf, ranks, stays, select, kept, isZero, entries, keptOf}
 use Rattle.quota.specs.Claim.{distance, distanceOf, Demand}
 use Rattle.pyramid.specs.Slices.{imageOf, pictureOf, coversOf, planeOf, numeratorsOf}
@@ -26,14 +26,14 @@ use Rattle.quota.proofs.Demand.{S-zero, q-length, q-at, kept-entries, k
 use Rattle.quota.proofs.Select.{select-cong}
 
 pub entries-cong : (R h w : ℕ) → Fits R h w → (P Q : Image) → Agree h w P Q → entries R h w P ≡ entries R h w Q
-entries-cong R h w f P Q e = sum-cong (places R h w) (λ p. cond (isZero (at P p)) 0 1) (λ p. cond (isZero (at Q p)) 0 1) (λ n l. ap {B = ℕ} (λ (z : ℤ). cond (isZero z) 0 1) (at-cong R h w f P Q e n l))
+entries-cong R h w f P Q e = sum-cong (tetroletPlaces R h w) (λ p. cond (isZero (at P p)) 0 1) (λ p. cond (isZero (at Q p)) 0 1) (λ n l. ap {B = ℕ} (λ (z : ℤ). cond (isZero z) 0 1) (at-cong R h w f P Q e n l))
 
 map-cong : (f g : Place → ℕ) (l : List Place) → ((n : ℕ) → n < length l → f (getD l n none) ≡ g (getD l n none)) → map f l ≡ map g l
 map-cong f g [] e = refl
 map-cong f g (p ∷ l) e = λ t. e 0 (omega arith) t ∷ map-cong f g l (λ n k. e (suc n) (omega arith)) t
 
 ranks-cong : (R h w : ℕ) → Fits R h w → (P Q : Image) → Agree h w P Q → ranks R h w P ≡ ranks R h w Q
-ranks-cong R h w f P Q e = map-cong (rankOf R P) (rankOf R Q) (places R h w) (λ n l. ap (λ (z : ℤ). natAbs z * 2 ^ (R - (getD (places R h w) n none) .level)) (at-cong R h w f P Q e n l))
+ranks-cong R h w f P Q e = map-cong (rankOf R P) (rankOf R Q) (tetroletPlaces R h w) (λ n l. ap (λ (z : ℤ). natAbs z * 2 ^ (R - (getD (tetroletPlaces R h w) n none) .level)) (at-cong R h w f P Q e n l))
 
 pub kept-cong : (R h w : ℕ) → Fits R h w → (K : ℕ) (P Q : Image) → Agree h w P Q → Agree h w (kept R h w K P) (kept R h w K Q)
 kept-cong R h w f K P Q e y x k l =
@@ -67,7 +67,7 @@ kept-total R h w K f P =
     ∙ sym (sum-numbers ps (λ p. cond (isZero (at P p)) 0 1)))
   where
     ps : List Place
-    ps = places R h w
+    ps = tetroletPlaces R h w
 
     q : List ℕ
     q = ranks R h w P
@@ -92,8 +92,8 @@ demand R h w K f s = record {
       (subst⁻¹ (λ (x : ℕ). distance R h w c A S ≤ x) (distance-of R h w cs s rival) (kept-nearest R h w f c ns K A (imageOf h rival) few));
   ours = subst⁻¹ (λ (x : ℕ). x ≤ K) (entries-cong R h w f (imageOf h q) S q-agrees) (kept-entries R h w f K P);
   exact = ours-is ∙ kept-exact R h w f c ns K A
-      ∙ sum-cong (places R h w) (λ e. term e (at P e) (at S e)) (λ e. term e (at (imageOf h p) e) (at (imageOf h q) e))
-      (λ n l. λ t. term (getD (places R h w) n none) (sym (at-cong R h w f (imageOf h p) P p-agrees n l) t) (sym (at-cong R h w f (imageOf h q) S q-agrees n l) t));
+      ∙ sum-cong (tetroletPlaces R h w) (λ e. term e (at P e) (at S e)) (λ e. term e (at (imageOf h p) e) (at (imageOf h q) e))
+      (λ n l. λ t. term (getD (tetroletPlaces R h w) n none) (sym (at-cong R h w f (imageOf h p) P p-agrees n l) t) (sym (at-cong R h w f (imageOf h q) S q-agrees n l) t));
 }
   where
     A : Image

@@ -7,13 +7,13 @@ use lib.IntN.{pos, ℤ, natAbs, _-ℤ_, +ℤ-invr}
 use lib.ListN.{getD}
 use native.Mathlib.Decide.{decLt}
 use Rattle.pyramid.specs.Plane.{Image, Fits, band, layout, withLow, halved}
-use Rattle.pyramid.specs.Places.{placesFrom, at, places}
+use Rattle.pyramid.specs.Places.{placesFrom, at, tetroletPlaces}
 use Rattle.quota.specs.Quota.{select, ranks, stays, kept}
 use Rattle.pyramid.proofs.Levels.{layout-low, layout-band}
 use Rattle.integers.proofs.Tests.{true-at, false-at}
 use Rattle.pyramid.proofs.Places.{none, All, size, all-places, places-inside}
 use Rattle.pyramid.proofs.Number.{later, numberAt}
-use Rattle.pyramid.specs.Slices.{InRange}
+use Rattle.pyramid.specs.Ranges.{InRange}
 use Rattle.pyramid.proofs.Ranges.{halved-le}
 use Rattle.integers.specs.Sum.{Σℕ, sq}
 use Rattle.integers.proofs.Sums.{Σℕ-cong, Σℕ-zero}
@@ -22,7 +22,7 @@ use Rattle.pyramid.proofs.Pyramid.{top-below, left-below}
 use Rattle.pyramid.proofs.Slices.{Agree, layout-cong}
 
 -- what a selection leaves at the place with the number n
-pub select-places : (d R h w : ℕ) → Fits R h w → (stay : ℕ → Bool) (P : Image) → All (λ n p. at (select R h w stay P) p ≡ cond (stay n) (at P p) (pos 0)) (placesFrom d R h w)
+pub select-places : (d R h w : ℕ) → Fits R h w → (stay : ℕ → Bool) (P : Image) → All (λ n p. at (select R h w stay P) p ≡ cond (stay n) (at P p) (pos 0)) (placesFrom false d R h w)
 unfolding placesFrom select
 select-places d zero h w f stay P = λ n l. absurd (omega arith)
 select-places d (suc R) h w f stay P =
@@ -44,10 +44,10 @@ select-places d (suc R) h w f stay P =
     S : Image
     S = layout h w B
 
-    deeper : All (λ n p. at (select R (h / 2) (w / 2) stay′ P) p ≡ cond (stay′ n) (at P p) (pos 0)) (placesFrom (suc d) R (h / 2) (w / 2)) → All (λ n p. at S p ≡ cond (stay′ n) (at P p) (pos 0)) (placesFrom (suc d) R (h / 2) (w / 2))
+    deeper : All (λ n p. at (select R (h / 2) (w / 2) stay′ P) p ≡ cond (stay′ n) (at P p) (pos 0)) (placesFrom false (suc d) R (h / 2) (w / 2)) → All (λ n p. at S p ≡ cond (stay′ n) (at P p) (pos 0)) (placesFrom false (suc d) R (h / 2) (w / 2))
     deeper g n l =
         let i = places-inside (suc d) R (h / 2) (w / 2) (f .2) n l in
-        let p = getD (placesFrom (suc d) R (h / 2) (w / 2)) n none in
+        let p = getD (placesFrom false (suc d) R (h / 2) (w / 2)) n none in
         layout-low h w B (p .down) (p .across) (i .0) (i .1) ∙ g n l
 
 -- what a selection leaves, by the number
@@ -95,7 +95,7 @@ select-low (suc R) h w stay P y x k l =
 pub kept-range : (R h w : ℕ) → Fits R h w → (K : ℕ) (P : Image) → InRange R h w P → InRange R h w (kept R h w K P)
 kept-range R h w f K P r = record {
   low = λ y x k l. subst⁻¹ (λ (z : ℤ). (n : ℕ) × (z ≡ pos n) × (n ≤ 4095 * 4 ^ R)) (select-low R h w (stays K (ranks R h w P)) P y x k l) (r .low y x k l);
-  tetrolet = λ k l. go (stays K (ranks R h w P) k) (at P (getD (places R h w) k none)) (select-places 0 R h w f (stays K (ranks R h w P)) P k l) (r .tetrolet k l);
+  tetrolet = λ k l. go (stays K (ranks R h w P) k) (at P (getD (tetroletPlaces R h w) k none)) (select-places 0 R h w f (stays K (ranks R h w P)) P k l) (r .tetrolet k l);
 }
   where
     go : (b : Bool) {z : ℤ} {m : ℕ} (y : ℤ) → z ≡ cond b y (pos 0) → natAbs y ≤ m → natAbs z ≤ m

@@ -7,7 +7,7 @@ use mathlib.Core.List.{List}
 use lib.ListN.{length, getD}
 use Rattle.integers.specs.Sum.{sq, total, only, Σℕ}
 use Rattle.pyramid.specs.Plane.{Image, analyse, numerators, listed, covers}
-use Rattle.pyramid.specs.Places.{places, at, sumOver}
+use Rattle.pyramid.specs.Places.{tetroletPlaces, at, sumOver}
 use Rattle.quota.specs.Quota.{kept, isZero, entries, entriesOf}
 use Rattle.pyramid.specs.Least.{Least}
 use Rattle.pyramid.specs.Slices.{imageOf, pictureOf, numeratorsOf}
@@ -33,7 +33,7 @@ pub record Demand3 (R h w K : ℕ) (A : Image) : Type 0 where
       let cs = listed (covers R h w A) in
       let P = analyse R h w cs A in
       let Q = kept R h w K P in
-      distance R h w cs A Q ≡ sumOver (places R h w) (λ p. only (not (isZero (at P p)) && isZero (at Q p)) (4 ^ (2 * R - p .level) * sq (at P p)))
+      distance R h w cs A Q ≡ sumOver (tetroletPlaces R h w) (λ p. only (not (isZero (at P p)) && isZero (at Q p)) (4 ^ (2 * R - p .level) * sq (at P p)))
 
 -- The same on slices.
 
@@ -54,4 +54,4 @@ pub record Demand (R h w K : ℕ) (s cs : List ℕ) (p q : List ℤ) : Type 0 wh
   pub exact :
       let old = imageOf h p in
       let new = imageOf h q in
-      distanceOf R h w cs s q ≡ sumOver (places R h w) (λ e. only (not (isZero (at old e)) && isZero (at new e)) (4 ^ (2 * R - e .level) * sq (at old e)))
+      distanceOf R h w cs s q ≡ sumOver (tetroletPlaces R h w) (λ e. only (not (isZero (at old e)) && isZero (at new e)) (4 ^ (2 * R - e .level) * sq (at old e)))

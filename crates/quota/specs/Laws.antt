@@ -8,8 +8,9 @@ use lib.IntN.{pos}
 use lib.ListN.{length, getD}
 use Rattle.integers.specs.Sum.{Σℕ, only}
 use Rattle.pyramid.specs.Plane.{Image, Fits, halved}
-use Rattle.pyramid.specs.Places.{places, noPlace, at}
-use Rattle.pyramid.specs.Slices.{InRange, coversOf, planeOf}
+use Rattle.pyramid.specs.Places.{tetroletPlaces, noPlace, at}
+use Rattle.pyramid.specs.Slices.{coversOf, planeOf}
+use Rattle.pyramid.specs.Ranges.{InRange}
 use Rattle.quota.specs.Quota.{stays, select, kept, entries, keptOf}
 use Rattle.quota.specs.Claim.{Demand3, Demand}
 use Rattle.quota.specs.Reckoned.{table, Agrees}
@@ -25,7 +26,7 @@ pub record KeepLaws (K : ℕ) (q : List ℕ) : Type 0 where
 -- A selection of entries by their numbers in plane order: the entry at the place with the number n is as it was, or 0, and the low-pass is as it was.
 -- With `PlaceLaws` of the crate pyramid, these two say what each entry is.
 pub record SelectLaws (R h w : ℕ) (stay : ℕ → Bool) (P : Image) : Type 0 where
-  pub tetrolet : (n : ℕ) → n < length (places R h w) → let p = getD (places R h w) n noPlace in at (select R h w stay P) p ≡ cond (stay n) (at P p) (pos 0)
+  pub tetrolet : (n : ℕ) → n < length (tetroletPlaces R h w) → let p = getD (tetroletPlaces R h w) n noPlace in at (select R h w stay P) p ≡ cond (stay n) (at P p) (pos 0)
   pub low : (y x : ℕ) → y < halved R h → x < halved R w → select R h w stay P y x ≡ P y x
 
 pub record Laws : Type 0 where

@@ -8,14 +8,14 @@ use lib.IntN.{ℤ, pos, natAbs}
 use Rattle.integers.specs.Sum.{Σℕ}
 use Rattle.pyramid.specs.Plane.{Image, band, layout, withLow}
 use Rattle.pyramid.specs.Slices.{imageOf, sliceOf}
-use Rattle.pyramid.specs.Places.{Place, noPlace, places, at, sumOver}
+use Rattle.pyramid.specs.Places.{Place, noPlace, tetroletPlaces, at, sumOver}
 
 -- The rank of an entry: its absolute value times 2 ^ (R - level).
 abbrev pub rankOf : ℕ → Image → Place → ℕ
 rankOf R P p = natAbs (at P p) * 2 ^ (R - p .level)
 
 abbrev pub ranks : ℕ → ℕ → ℕ → Image → List ℕ
-ranks R h w P = map (rankOf R P) (places R h w)
+ranks R h w P = map (rankOf R P) (tetroletPlaces R h w)
 
 -- Entry m goes before entry n: by falling rank, then plane order.
 abbrev pub before : List ℕ → ℕ → ℕ → Bool
@@ -44,14 +44,14 @@ abbrev pub passes : ℕ → Image → Place → Bool
 passes T P p = leb (T * 2 ^ p .level) (natAbs (at P p))
 
 abbrev pub cut : ℕ → ℕ → ℕ → ℕ → Image → Image
-cut R h w T P = select R h w (λ n. passes T P (getD (places R h w) n noPlace)) P
+cut R h w T P = select R h w (λ n. passes T P (getD (tetroletPlaces R h w) n noPlace)) P
 
 abbrev pub isZero : ℤ → Bool
 isZero z = eqb (natAbs z) 0
 
 -- How many tetrolet entries of a plane are not zero.
 abbrev pub entries : ℕ → ℕ → ℕ → Image → ℕ
-entries R h w P = sumOver (places R h w) (λ p. cond (isZero (at P p)) 0 1)
+entries R h w P = sumOver (tetroletPlaces R h w) (λ p. cond (isZero (at P p)) 0 1)
 
 -- The same on slices: the plane that Keep leaves, the plane that Cut leaves, and the number of tetrolet entries that are not zero.
 abbrev pub keptOf : ℕ → ℕ → ℕ → ℕ → List ℤ → List ℤ

@@ -8,7 +8,7 @@ use lib.IntN.{ℤ, pos, negℤ}
 use Rattle.coverings.specs.Words.{words, wordOf}
 use Rattle.block.specs.Block.{costOf, shapesOf, labelsOf, pick, forward}
 use Rattle.pyramid.specs.Plane.{blockOf}
-use Rattle.integers.specs.Tabulate.{tabulate}
+use Rattle.integers.specs.Lists.{tabulate}
 use Rattle.pyramid.specs.Places.{placeAt}
 use Rattle.quota.specs.Quota.{rankOf, before, keptOf, cutOf}
 use Rattle.pyramid.specs.Slices.{pictureOf, coversOf, planeOf, numeratorsOf, samplesOf}
