@@ -7,7 +7,7 @@ use lib.IntN.{ℤ, pos, _-ℤ_, _*ℤ_, natAbs, _+ℤ_}
 use Rattle.integers.specs.Sum.{Σℕ, sq}
 use Rattle.integers.proofs.Sums.{Σℕ-cong, Σℕ-scale, Σℕ-blocks, reorder}
 use Rattle.coverings.specs.Block.{cells, nameOf}
-use Rattle.block.specs.Block.{signRow, valuesOf, shapesOf, placeOf, labelsOf, forward, inverse}
+use Rattle.block.specs.Block.{signRow, valuesOf, shapesOf, placeIn, placeOf, labelsOf, forward, inverse}
 use Rattle.block.proofs.Rows.{rows-twice, rows-squares, rows-sub, rows-scale, rows-cong}
 use Rattle.block.proofs.Words.{Good, cellOf, labelIn}
 use Rattle.integers.proofs.Bound.{abs-add, abs-sub}
@@ -25,6 +25,10 @@ inverse-sub w t u a = rows-sub (placeOf w a) (λ b. t b (labelIn (labelsOf w) (n
 pub inverse-scale : (w : List ℕ) (c : ℤ) (t : ℕ → ℕ → ℤ) (a : ℕ) → inverse w (λ b s. c *ℤ t b s) a ≡ c *ℤ inverse w t a
 unfolding inverse
 inverse-scale w c t a = rows-scale (placeOf w a) c (λ b. t b (labelIn (labelsOf w) (nameOf w a)))
+
+pub forward-sub : (w : List ℕ) (v u : ℕ → ℤ) (b s : ℕ) → forward w (λ a. v a -ℤ u a) b s ≡ forward w v b s -ℤ forward w u b s
+unfolding forward
+forward-sub w v u b s = rows-sub b (valuesOf (shapesOf w (placeIn s (labelsOf w))) v) (valuesOf (shapesOf w (placeIn s (labelsOf w))) u)
 
 -- the piece with the label of piece p is p
 forward-label : (w : List ℕ) → Good w → (v : ℕ → ℤ) (b p : ℕ) → p < 4 → forward w v b (labelIn (labelsOf w) p) ≡ signRow b (valuesOf (shapesOf w p) v)

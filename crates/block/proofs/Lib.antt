@@ -1,5 +1,6 @@
 pub mod All
 pub mod Blocks
+pub mod Labels
 pub mod Named
 pub mod Pick
 pub mod Rows

@@ -5,9 +5,9 @@ use mathlib.Core.Bool.{Bool, true, false, not, cond, _&&_}
 use mathlib.Core.List.{List, [], _∷_, _++_}
 use Prim.Native.Nat.{ℕ, zero, suc, _+_, _*_, _/_, _%_, _≤_, _<_}
 use native.Mathlib.Omega.{arith}
-use native.Mathlib.Nat.{le-refl, le-trans}
+use native.Mathlib.Nat.{le-refl, le-trans, le-of-lt, le-of-eq, lt-of-le-of-lt}
 use native.Mathlib.Decide.{decLt}
-use lib.Dec.{T, eqb, ltb, eqb→eq, ltb→lt, nltb→le}
+use lib.Dec.{T, eqb, ltb, eqb→eq, ltb→lt, lt→ltb}
 use lib.IntN.{ℤ, natAbs}
 use lib.ListN.{length, getD}
 use Rattle.integers.specs.Sum.{Σℕ}
@@ -15,9 +15,10 @@ use Rattle.integers.proofs.Sums.{Σℕ-cong, Σℕ-term, δ, δ-same, reached}
 use Rattle.coverings.specs.Block.{cells, filter, withIf, nameOf, Shapes}
 use Rattle.coverings.specs.Words.{wordOf}
 use Rattle.coverings.specs.Rule.{Number}
-use Rattle.integers.proofs.Tests.{both-left, either, or-left, or-right, decided, refused, eq→eqb}
+use Rattle.integers.proofs.Tests.{both-left, both-right, both, either, or-left, or-right, eq→eqb}
 use Rattle.coverings.proofs.Lists.{mem, filter-in, cell-below}
 use Rattle.coverings.proofs.Table.{rule}
+use Rattle.block.specs.Laws.{Wins}
 use Rattle.block.specs.Block.{signRow, valuesOf, costOf, shapesOf, beats, countIn, pickTo, pick}
 use Rattle.block.proofs.Rows.{rows-cong}
 use Rattle.block.proofs.Words.{Good, good, cellOf}
@@ -130,18 +131,24 @@ pub count-snoc : (n c : ℕ) (l : List ℕ) → countIn n (l ++ (c ∷ [])) ≡ 
 count-snoc n c [] = omega arith
 count-snoc n c (x ∷ l) = omega (arith, count-snoc n c l)
 
--- the choice is a covering, and the least of those tried
-record Chosen (v : ℕ → ℤ) (n m : ℕ) : Type 0 where
+-- the choice is a covering, and wins against each of those tried
+record Chosen (earlier : List ℕ) (v : ℕ → ℤ) (n m : ℕ) : Type 0 where
   number : (1 ≤ m) × (m ≤ suc n)
-  lowest : (k : ℕ) → 1 ≤ k → k ≤ suc n → costOf (shapesOf (wordOf m)) v ≤ costOf (shapesOf (wordOf k)) v
+  wins : (k : ℕ) → 1 ≤ k → k ≤ suc n → Wins earlier v m k
 
-chosen : (n : ℕ) (earlier : List ℕ) (v : ℕ → ℤ) → Chosen v n (pickTo n earlier v)
+chosen : (n : ℕ) (earlier : List ℕ) (v : ℕ → ℤ) → Chosen earlier v n (pickTo n earlier v)
 unfolding pickTo
-chosen zero earlier v = record { number = (omega arith, omega arith); lowest = λ k a b. let e : 1 ≡ k = omega arith in rw (← e) (le-refl _) }
+chosen zero earlier v = record {
+  number = (omega arith, omega arith);
+  wins = λ k a b. let e : 1 ≡ k = omega arith in rw (← e) (record { lowest = le-refl _; often = λ q. le-refl _; first = λ q r. le-refl _ });
+}
 chosen (suc n) earlier v = go (beats earlier v (suc (suc n)) (pickTo n earlier v)) refl (chosen n earlier v)
   where
     cost : ℕ → ℕ
     cost k = costOf (shapesOf (wordOf k)) v
+
+    often : ℕ → ℕ
+    often k = countIn k earlier
 
     m : ℕ
     m = pickTo n earlier v
@@ -149,37 +156,50 @@ chosen (suc n) earlier v = go (beats earlier v (suc (suc n)) (pickTo n earlier v
     new : ℕ
     new = suc (suc n)
 
-    less : T (beats earlier v new m) → cost new ≤ cost m
-    less t = on (either (ltb (cost new) (cost m)) (eqb (cost new) (cost m) && ltb (countIn m earlier) (countIn new earlier)) t)
+    less : T (beats earlier v new m) → (cost new < cost m) ⊎ ((cost new ≡ cost m) × (often m < often new))
+    less t = on (either (ltb (cost new) (cost m)) (eqb (cost new) (cost m) && ltb (often m) (often new)) t)
       where
-        on : T (ltb (cost new) (cost m)) ⊎ T (eqb (cost new) (cost m) && ltb (countIn m earlier) (countIn new earlier)) → cost new ≤ cost m
-        on (inl l) = let h = ltb→lt (cost new) (cost m) l in omega arith
-        on (inr e) = let h = eqb→eq (cost new) (cost m) (both-left (eqb (cost new) (cost m)) (ltb (countIn m earlier) (countIn new earlier)) e) in omega arith
+        on : T (ltb (cost new) (cost m)) ⊎ T (eqb (cost new) (cost m) && ltb (often m) (often new)) → (cost new < cost m) ⊎ ((cost new ≡ cost m) × (often m < often new))
+        on (inl l) = inl (ltb→lt (cost new) (cost m) l)
+        on (inr e) = inr (eqb→eq (cost new) (cost m) (both-left (eqb (cost new) (cost m)) _ e), ltb→lt (often m) (often new) (both-right (eqb (cost new) (cost m)) _ e))
 
-    more : (b : Bool) → beats earlier v new m ≡ b → T (not b) → cost m ≤ cost new
-    more b e t = nltb→le (cost new) (cost m) (on (decided (ltb (cost new) (cost m))))
+    -- where the new one does not go before m
+    not-less : (T (beats earlier v new m) → ⊥) → cost m ≤ cost new
+    not-less h = on (decLt (cost new) (cost m))
       where
-        on : T (ltb (cost new) (cost m)) ⊎ T (not (ltb (cost new) (cost m))) → T (not (ltb (cost new) (cost m)))
-        on (inl l) = absurd (refused b t (subst T e (or-left (ltb (cost new) (cost m)) (eqb (cost new) (cost m) && ltb (countIn m earlier) (countIn new earlier)) l)))
-        on (inr l) = l
+        on : Dec (cost new < cost m) → cost m ≤ cost new
+        on (yes l) = absurd (h (or-left (ltb (cost new) (cost m)) _ (lt→ltb (cost new) (cost m) l)))
+        on (no l) = omega arith
 
-    go : (b : Bool) → beats earlier v new m ≡ b → Chosen v n m → Chosen v (suc n) (cond b new m)
-    go true e c = record {
-      number = (omega arith, omega arith);
-      lowest = λ k a l. on k a (decLt k new) l;
-    }
+    not-more : (T (beats earlier v new m) → ⊥) → cost m ≡ cost new → often new ≤ often m
+    not-more h e = on (decLt (often m) (often new))
       where
-        on : (k : ℕ) → 1 ≤ k → Dec (k < new) → k ≤ new → cost new ≤ cost k
-        on k a (yes h) l = le-trans (less (subst T (sym e) tt)) (c .lowest k a (omega arith))
-        on k a (no h) l = let q : k ≡ new = omega arith in rw q (le-refl _)
-    go false e c = record {
-      number = (c .number .0, omega arith);
-      lowest = λ k a l. on k a (decLt k new) l;
-    }
+        on : Dec (often m < often new) → often new ≤ often m
+        on (yes l) = absurd (h (or-right (ltb (cost new) (cost m)) _ (both (eqb (cost new) (cost m)) (ltb (often m) (often new)) (eq→eqb (sym e)) (lt→ltb (often m) (often new) l))))
+        on (no l) = omega arith
+
+    go : (b : Bool) → beats earlier v new m ≡ b → Chosen earlier v n m → Chosen earlier v (suc n) (cond b new m)
+    go true e c = record { number = (omega arith, omega arith); wins = λ k a l. on k a (decLt k new) l }
       where
-        on : (k : ℕ) → 1 ≤ k → Dec (k < new) → k ≤ new → cost m ≤ cost k
-        on k a (yes h) l = c .lowest k a (omega arith)
-        on k a (no h) l = let q : k ≡ new = omega arith in rw q (more false e tt)
+        over : (k : ℕ) → Wins earlier v m k → (cost new < cost m) ⊎ ((cost new ≡ cost m) × (often m < often new)) → Wins earlier v new k
+        over k w (inl s) = record { lowest = le-trans (le-of-lt s) (w .lowest); often = λ q. let z = w .lowest in absurd (omega arith); first = λ q r. let z = w .lowest in absurd (omega arith) }
+        over k w (inr s) = record {
+          lowest = le-trans (le-of-eq (s .0)) (w .lowest);
+          often = λ q. le-of-lt (lt-of-le-of-lt (w .often (sym (s .0) ∙ q)) (s .1));
+          first = λ q r. let z = w .often (sym (s .0) ∙ q) in let u = s .1 in absurd (omega arith);
+        }
+
+        on : (k : ℕ) → 1 ≤ k → Dec (k < new) → k ≤ new → Wins earlier v new k
+        on k a (yes h) l = over k (c .wins k a (omega arith)) (less (subst T (sym e) tt))
+        on k a (no h) l = let q : k ≡ new = omega arith in rw q (record { lowest = le-refl _; often = λ q. le-refl _; first = λ q r. le-refl _ })
+    go false e c = record { number = (c .number .0, omega arith); wins = λ k a l. on k a (decLt k new) l }
+      where
+        never : T (beats earlier v new m) → ⊥
+        never t = subst T e t
+
+        on : (k : ℕ) → 1 ≤ k → Dec (k < new) → k ≤ new → Wins earlier v m k
+        on k a (yes h) l = c .wins k a (omega arith)
+        on k a (no h) l = let q : k ≡ new = omega arith in rw q (record { lowest = not-less never; often = not-more never; first = λ q r. let z = c .number .1 in omega arith })
 
 pub pick-number : (earlier : List ℕ) (v : ℕ → ℤ) → Number (pick earlier v)
 unfolding pick
@@ -187,10 +207,14 @@ pick-number earlier v = chosen 116 earlier v .number
 
 pub pick-lowest : (earlier : List ℕ) (v : ℕ → ℤ) (n : ℕ) → Number n → costOf (shapesOf (wordOf (pick earlier v))) v ≤ costOf (shapesOf (wordOf n)) v
 unfolding pick
-pick-lowest earlier v n m = chosen 116 earlier v .lowest n (m .0) (m .1)
+pick-lowest earlier v n m = chosen 116 earlier v .wins n (m .0) (m .1) .lowest
+
+pub pick-wins : (earlier : List ℕ) (v : ℕ → ℤ) (n : ℕ) → Number n → Wins earlier v (pick earlier v) n
+unfolding pick
+pick-wins earlier v n m = chosen 116 earlier v .wins n (m .0) (m .1)
 
 pub pick-least : (earlier : List ℕ) (v : ℕ → ℤ) (shape : ℕ → ℕ → Bool) → Shapes shape → costOf (shapesOf (wordOf (pick earlier v))) v ≤ costOf shape v
 unfolding pick
 pick-least earlier v shape f =
     let c = covering-cost shape f v in
-    le-trans (chosen 116 earlier v .lowest (c .0) (c .1 .0) (c .1 .1)) (c .2)
+    le-trans (chosen 116 earlier v .wins (c .0) (c .1 .0) (c .1 .1) .lowest) (c .2)

@@ -9,7 +9,7 @@ use native.Mathlib.Nat.{not-suc-le-zero, le-of-suc-le-suc}
 use native.Mathlib.Omega.{arith}
 use lib.Dec.{T, eqb, eqb→eq, eqb-refl, ltb, ltb→lt, lt→ltb}
 use lib.ListN.{length, getD}
-use Rattle.integers.specs.Lists.{every}
+use Rattle.integers.specs.Lists.{every, oneOf}
 
 pub is-true : (t : Bool) → T t → t ≡ true
 is-true true h = refl
@@ -82,3 +82,12 @@ every-at g (x ∷ xs) d t (suc i) h = every-at g xs d (both-right (g x) (every g
 pub every-of : {A : Type 0} (g : A → Bool) (xs : List A) (d : A) → ((i : ℕ) → i < length xs → T (g (getD xs i d))) → T (every g xs)
 every-of g [] d f = tt
 every-of g (x ∷ xs) d f = both (g x) (every g xs) (f 0 (omega arith)) (every-of g xs d (λ i h. f (suc i) (omega arith)))
+
+-- one of a list stands somewhere in it
+pub oneOf-at : (ks : List ℕ) (n : ℕ) → T (oneOf ks n) → (i : ℕ) × (i < length ks) × (n ≡ getD ks i 0)
+oneOf-at [] n t = absurd t
+oneOf-at (k ∷ ks) n t = go (oneOf-at ks n) (either (eqb n k) (oneOf ks n) t)
+  where
+    go : (T (oneOf ks n) → (i : ℕ) × (i < length ks) × (n ≡ getD ks i 0)) → T (eqb n k) ⊎ T (oneOf ks n) → (i : ℕ) × (i < length (k ∷ ks)) × (n ≡ getD (k ∷ ks) i 0)
+    go ih (inl e) = (0, omega arith, eqb→eq n k e)
+    go ih (inr h) = let r = ih h in (suc (r .0), omega (arith, r .1), r .2)

@@ -1,19 +1,28 @@
 -- The laws of the pyramid, all together. Assumes nothing.
 use mathlib.Core.Path.{_≡_, refl, sym, ap, _∙_}
-use Prim.Native.Nat.{ℕ, zero, suc, _+_, _*_, _-_, _/_, _^_}
+use Prim.Native.Nat.{ℕ, zero, suc, pred, _+_, _*_, _-_, _/_, _%_, _^_, _<_, _≤_}
 use native.Mathlib.Omega.{arith}
-use native.Mathlib.Nat.{one-mul}
-use lib.ListN.{getD}
+use native.Mathlib.Nat.{one-mul, one-le-pow}
+use lib.IntN.{pos, _+ℤ_, _*ℤ_}
+use lib.ListN.{length, getD, length-append}
+use mathlib.Core.List.{List}
 use Rattle.integers.specs.Sum.{sq, total}
 use Rattle.pyramid.specs.Plane.{Fits, numerators, Numbers, allBlocks, halved}
-use Rattle.pyramid.specs.Places.{tetroletPlaces, at, sumOver}
-use Rattle.pyramid.specs.Laws.{PyramidLaws, PlaceLaws, Laws}
+use Rattle.integers.specs.Lists.{tabulate}
+use Rattle.integers.proofs.Tabulate.{length-tabulate}
+use Rattle.integers.proofs.Div.{shr-low, shr-high}
+use Rattle.pyramid.specs.Places.{Place, planePlaces, tetroletPlaces, blocksFrom, blockAt, at, sumOver}
+use Rattle.pyramid.specs.Laws.{PyramidLaws, Places, PlaceLaws, Laws}
 use Rattle.pyramid.proofs.Pyramid.{numerators-sub, numerators-analyse}
 use Rattle.pyramid.proofs.Energy.{lowTotal, energy}
-use Rattle.pyramid.proofs.Ranges.{in-range, side-fits}
+use Rattle.pyramid.proofs.Ranges.{in-range}
+use Rattle.pyramid.proofs.Sides.{sized, sized-fits}
 use Rattle.pyramid.proofs.Bounds.{bounds, exactly}
 use Rattle.pyramid.proofs.Choose.{covers-length, covers-numbers, covers-least}
-use Rattle.pyramid.proofs.Places.{none, places-inside}
+use Rattle.pyramid.proofs.Places.{All, places-inside}
+use Rattle.pyramid.proofs.Order.{numberIn, plane-inside, number-of, plane-count, entry-at}
+use Rattle.pyramid.proofs.Standing.{level, analyse-sub}
+use Rattle.pyramid.proofs.Whole.{places-banded, ranged}
 use Rattle.pyramid.proofs.Number.{numberAt, number-place, places-count, entry-cases}
 
 low-is : (R h w : ℕ) (f : ℕ → ℕ → ℕ) → lowTotal R h w f ≡ total (halved R h) (halved R w) f
@@ -23,6 +32,7 @@ low-is (suc R) h w f = low-is R (h / 2) (w / 2) f
 pub pyramid : (R h w : ℕ) → Fits R h w → (cs : ℕ → ℕ) → Numbers (allBlocks R h w) cs → PyramidLaws R h w cs
 pyramid R h w f cs ns = record {
   restored = numerators-analyse R h w f cs ns;
+  analysed = analyse-sub R h w cs;
   additive = numerators-sub R h w cs;
   squares = λ P.
       sym (one-mul (total h w (λ y x. sq (numerators R h w cs P y x))))
@@ -32,25 +42,46 @@ pyramid R h w f cs ns = record {
   bounds = bounds R h w f cs ns;
 }
 
-pub placed : (R h w : ℕ) → Fits R h w → PlaceLaws R h w
-placed R h w f = record {
-  count = places-count 0 R h w f;
-  inside = places-inside 0 R h w f;
-  once = λ m n k l e g.
-      let i = number-place 0 R h w f m k in
-      let j = number-place 0 R h w f n l in
-      let same : numberAt R h w ((getD (tetroletPlaces R h w) m none) .down) ((getD (tetroletPlaces R h w) m none) .across) ≡ numberAt R h w ((getD (tetroletPlaces R h w) n none) .down) ((getD (tetroletPlaces R h w) n none) .across) = (λ t. numberAt R h w (e t) (g t)) in
-      omega arith;
-  cases = entry-cases 0 R h w f;
+-- no two numbers are one entry, where an entry tells its number
+distinct : (h w : ℕ) (l : List Place) (number : ℕ → ℕ → ℕ) → All (λ n p. (p .down < h) × (p .across < w)) l → All (λ n p. number (p .down) (p .across) ≡ n) l → Places h w l
+distinct h w l number i e = record {
+  inside = i;
+  once = λ m n k g p q. sym (e m k) ∙ (λ t. number (p t) (q t)) ∙ e n g;
 }
+
+block-count : (d R h w : ℕ) → length (blocksFrom d R h w) ≡ allBlocks R h w
+unfolding blocksFrom
+block-count d zero h w = refl
+block-count d (suc R) h w =
+    length-append (tabulate ((w / 4) * (h / 4)) (λ k. blockAt (suc d) (k % (h / 4)) (k / (h / 4)))) _
+    ∙ (λ t. length-tabulate ((w / 4) * (h / 4)) (λ k. blockAt (suc d) (k % (h / 4)) (k / (h / 4))) t + block-count (suc d) R (h / 2) (w / 2) t)
+
+pub placed : (R h w : ℕ) → Fits R h w → 1 ≤ R → PlaceLaws R h w
+placed zero h w f l = absurd (omega arith)
+placed (suc R) h w f l = record {
+  plane = distinct h w (planePlaces (suc R) h w) (numberIn (suc R) h w) (plane-inside 0 R h w f) (number-of 0 R h w f);
+  all = plane-count 0 R h w f;
+  found = λ y x k l. let e = entry-at 0 R h w f y x k l in (numberIn (suc R) h w y x, e .inside, e .down, e .across);
+  tetrolet = distinct h w (tetroletPlaces (suc R) h w) (λ y x. pred (numberAt (suc R) h w y x)) (places-inside 0 (suc R) h w f) (λ n l. ap pred (number-place 0 (suc R) h w f n l));
+  count = places-count 0 (suc R) h w f;
+  cases = entry-cases 0 (suc R) h w f;
+  banded = places-banded 0 (suc R) h w;
+  blocks = block-count 0 (suc R) h w;
+  tested = ranged R h w;
+}
+
+even : (R : ℕ) → 0 < 2 * 4 ^ R
+even R = let h = one-le-pow R 4 (omega arith) in omega arith
 
 pub laws : Laws
 laws = record {
   byCoverings = pyramid;
+  level = level;
   placed = placed;
   lengths = covers-length;
   numbers = covers-numbers;
   least = covers-least;
   exactly = exactly;
-  sides = side-fits;
+  rounded = λ R y. let z = pos 2 *ℤ y +ℤ pos (4 ^ R) in (shr-low (2 * 4 ^ R) z (even R), shr-high (2 * 4 ^ R) z (even R));
+  sides = λ R h w s t d. sized-fits (sized R h w s t d);
 }

@@ -134,16 +134,3 @@ in-range R h w f cs A a = record { low = r .0; tetrolet = r .1 }
 
     r : Low R h w (4095 * 4 ^ R) (analyse R h w cs A) × All (λ n p. natAbs (at (analyse R h w cs A) p) ≤ 2 * 4 ^ (p .level - 1) * 4095) (tetroletPlaces R h w)
     r = analyse-range 0 R h w 4095 f cs A a (λ l. 2 * 4 ^ (l - 1) * 4095) (λ k l. bound k)
-
--- a side that is a power of two
-pub side-fits : (m R : ℕ) → R < m → Fits R (2 ^ m) (2 ^ m)
-side-fits m zero l = tt
-side-fits zero (suc R) l = absurd (omega arith)
-side-fits (suc zero) (suc R) l = absurd (omega arith)
-side-fits (suc (suc m)) (suc R) l = (four, four, subst (λ (n : ℕ). Fits R n n) (sym half) (side-fits (suc m) R (omega arith)))
-  where
-    half : 2 ^ suc (suc m) / 2 ≡ 2 ^ suc m
-    half = let p = pow-succ' 2 (suc m) in omega arith
-
-    four : 2 ^ suc (suc m) % 4 ≡ 0
-    four = let p = pow-succ' 2 (suc m) in let q = pow-succ' 2 m in omega arith

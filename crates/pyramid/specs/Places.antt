@@ -67,11 +67,14 @@ pub record BlockPlace : Type 0 where
   pub row : ℕ
   pub col : ℕ
 
+abbrev pub blockAt : ℕ → ℕ → ℕ → BlockPlace
+blockAt r i j = record { level = r; row = i; col = j }
+
 -- Document 01: "Coverings are listed by level, blocks in column order."
 unfoldable pub blocksFrom : ℕ → ℕ → ℕ → ℕ → List BlockPlace
 blocksFrom d zero h w = []
 blocksFrom d (suc R) h w =
-    tabulate ((w / 4) * (h / 4)) (λ k. record { level = suc d; row = k % (h / 4); col = k / (h / 4) }) ++ blocksFrom (suc d) R (h / 2) (w / 2)
+    tabulate ((w / 4) * (h / 4)) (λ k. blockAt (suc d) (k % (h / 4)) (k / (h / 4))) ++ blocksFrom (suc d) R (h / 2) (w / 2)
 
 abbrev pub blockPlaces : ℕ → ℕ → ℕ → List BlockPlace
 blockPlaces R h w = blocksFrom 0 R h w

@@ -9,8 +9,11 @@ use Rattle.integers.specs.Lists.{oneOf}
 use Rattle.pyramid.specs.Plane.{allBlocks}
 
 -- Document 01: "Side N is a power of two, 4 to 512."
+abbrev pub sides : List ℕ
+sides = 4 ∷ 8 ∷ 16 ∷ 32 ∷ 64 ∷ 128 ∷ 256 ∷ 512 ∷ []
+
 abbrev pub isSide : ℕ → Bool
-isSide n = oneOf (4 ∷ 8 ∷ 16 ∷ 32 ∷ 64 ∷ 128 ∷ 256 ∷ 512 ∷ []) n
+isSide n = oneOf sides n
 
 -- Document 01: "Levels R run from 1 to log2(N)-1", that is, 2 to the power R+1 is at most N; of a height and a width it is at most both.
 abbrev pub isDepth : ℕ → ℕ → ℕ → Bool

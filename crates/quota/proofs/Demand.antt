@@ -1,4 +1,4 @@
--- The third demand, proved of the definitions. Assumes nothing.
+-- The third demand on images, field by field. Assumes nothing.
 use mathlib.Core.Path.{_≡_, refl, sym, ap, _∙_, subst, subst⁻¹}
 use mathlib.Core.Bool.{Bool, true, false, not, cond, _&&_}
 use mathlib.Core.List.{List, [], _∷_, map}
@@ -12,16 +12,15 @@ use Rattle.integers.proofs.Bound.{abs-neg}
 use Rattle.integers.specs.Sum.{Σℕ, only, sq, total}
 use Rattle.integers.proofs.Sums.{Σℕ-cong}
 use Rattle.integers.proofs.Tests.{is-false}
-use Rattle.pyramid.specs.Plane.{Image, Fits, analyse, numerators, listed, covers, Numbers, allBlocks}
+use Rattle.pyramid.specs.Plane.{Image, Fits, analyse, numerators, Numbers, allBlocks}
 use Rattle.pyramid.specs.Places.{Place, tetroletPlaces, at, sumOver}
 use Rattle.quota.specs.Quota.{rankOf, ranks, stays, kept, isZero, entries}
-use Rattle.quota.specs.Claim.{distance, Demand3}
+use Rattle.quota.proofs.Distance.{distance}
 use Rattle.pyramid.proofs.Pyramid.{numerators-sub, numerators-analyse}
 use Rattle.pyramid.proofs.Places.{none, sum-numbers, sum-cong, sum-mono}
 use Rattle.quota.proofs.Select.{select-places, low-selected}
 use Rattle.pyramid.proofs.Energy.{lowTotal, total-cong, energy, factor}
 use Rattle.quota.proofs.Keep.{stay-rank, stay-count, stay-best}
-use Rattle.pyramid.proofs.Choose.{covers-numbers, covers-least}
 
 pub getD-map : (f : Place → ℕ) (l : List Place) (n : ℕ) → n < length l → getD (map f l) n 0 ≡ f (getD l n none)
 getD-map f [] n h = absurd (omega arith)
@@ -217,11 +216,3 @@ module _ (R h w : ℕ) (f : Fits R h w) (cs : ℕ → ℕ) (ns : Numbers (allBlo
 
       more : {a b : ℕ} (c : ℕ) → a ≤ b → a ≤ c + b
       more c h = omega arith
-
-pub demand3 : (R h w K : ℕ) → Fits R h w → (A : Image) → Demand3 R h w K A
-demand3 R h w K f A = record {
-  least = covers-least R h w f A;
-  nearest = kept-nearest R h w f (listed (covers R h w A)) (covers-numbers R h w A) K A;
-  ours = kept-entries R h w f K (analyse R h w (listed (covers R h w A)) A);
-  exact = kept-exact R h w f (listed (covers R h w A)) (covers-numbers R h w A) K A;
-}

@@ -14,7 +14,8 @@ use Rattle.integers.proofs.Tests.{is-true, is-false}
 use Rattle.pyramid.specs.Plane.{Image, Fits, analyse, numerators, listed, Numbers, allBlocks}
 use Rattle.pyramid.specs.Places.{Place, tetroletPlaces, at}
 use Rattle.quota.specs.Quota.{rankOf, ranks, stays, select, kept, isZero, entries, keptOf}
-use Rattle.quota.specs.Claim.{distance, distanceOf, Demand}
+use Rattle.quota.specs.Claims.{distanceOf, Demand}
+use Rattle.quota.proofs.Distance.{distance}
 use Rattle.pyramid.specs.Slices.{imageOf, pictureOf, coversOf, planeOf, numeratorsOf}
 use Rattle.pyramid.proofs.Pyramid.{numerators-cong}
 use Rattle.pyramid.proofs.Places.{none, sum-numbers, sum-cong, at-cong}

@@ -2,17 +2,17 @@
 use mathlib.Core.Path.{_≡_}
 use mathlib.Core.List.{List}
 use mathlib.Core.Bool.{Bool, not, cond}
-use Prim.Native.Nat.{ℕ, _*_, _<_, _≤_, min}
-use lib.Dec.{ltb}
+use Prim.Native.Nat.{ℕ, suc, _*_, _<_, _≤_, min}
+use lib.Dec.{T, ltb}
 use lib.IntN.{pos}
 use lib.ListN.{length, getD}
 use Rattle.integers.specs.Sum.{Σℕ, only}
 use Rattle.pyramid.specs.Plane.{Image, Fits, halved}
 use Rattle.pyramid.specs.Places.{tetroletPlaces, noPlace, at}
-use Rattle.pyramid.specs.Slices.{coversOf, planeOf}
-use Rattle.pyramid.specs.Ranges.{InRange}
+use Rattle.pyramid.specs.Slices.{imageOf, coversOf, planeOf}
+use Rattle.pyramid.specs.Ranges.{inRange}
 use Rattle.quota.specs.Quota.{stays, select, kept, entries, keptOf}
-use Rattle.quota.specs.Claim.{Demand3, Demand}
+use Rattle.quota.specs.Claims.{Demand}
 use Rattle.quota.specs.Reckoned.{table, Agrees}
 
 -- Keep on a list q of ranks.
@@ -34,10 +34,10 @@ pub record Laws : Type 0 where
   pub selected : (R h w : ℕ) → Fits R h w → (stay : ℕ → Bool) (P : Image) → SelectLaws R h w stay P
   -- Keep leaves the smaller of K and the entries before that are not zero
   pub counted : (R h w K : ℕ) → Fits R h w → (P : Image) → entries R h w (kept R h w K P) ≡ min K (entries R h w P)
-  -- Keep leaves a plane in range
-  pub ranges : (R h w : ℕ) → Fits R h w → (K : ℕ) (P : Image) → InRange R h w P → InRange R h w (kept R h w K P)
-  -- the third demand, on images and on slices
-  pub demand3 : (R h w K : ℕ) → Fits R h w → (A : Image) → Demand3 R h w K A
+  -- decomposing a picture gives a plane that Keep accepts, and Keep leaves one that restoring accepts
+  pub keepAccepts : (R h w : ℕ) → Fits (suc R) h w → (s : List ℕ) → ((k : ℕ) → k < w * h → getD s k 0 ≤ 4095) → T (inRange (suc R) h w (imageOf h (planeOf (suc R) h w s)))
+  pub restoreAccepts : (R h w : ℕ) → Fits (suc R) h w → (s : List ℕ) → ((k : ℕ) → k < w * h → getD s k 0 ≤ 4095) → (K : ℕ) → T (inRange (suc R) h w (imageOf h (keptOf (suc R) h w K (planeOf (suc R) h w s))))
+  -- the third demand
   pub demand : (R h w K : ℕ) → Fits R h w → (s : List ℕ) → Demand R h w K s (coversOf R h w s) (planeOf R h w s) (keptOf R h w K (planeOf R h w s))
   -- the starred examples
   pub examples : Agrees table

@@ -2,17 +2,16 @@
 use mathlib.Core.Path.{_≡_}
 use mathlib.Core.Bool.{Bool, cond}
 use mathlib.Core.List.{List, [], _∷_, _++_, map}
-use Prim.Native.Nat.{ℕ, suc}
+use Prim.Native.Nat.{ℕ, _+_, _*_}
 use lib.ListN.{getD, take, replicate}
 use lib.IntN.{ℤ, pos, negℤ}
 use Rattle.coverings.specs.Words.{words, wordOf}
-use Rattle.block.specs.Block.{costOf, shapesOf, labelsOf, pick, forward}
+use Rattle.block.specs.Block.{costOf, shapesOf, labelsOf, pick}
 use Rattle.pyramid.specs.Plane.{blockOf}
-use Rattle.integers.specs.Lists.{tabulate}
 use Rattle.pyramid.specs.Places.{placeAt}
 use Rattle.quota.specs.Quota.{rankOf, before, keptOf, cutOf}
 use Rattle.pyramid.specs.Slices.{pictureOf, coversOf, planeOf, numeratorsOf, samplesOf}
-use Rattle.quota.specs.Claim.{distanceOf}
+use Rattle.quota.specs.Claims.{distanceOf}
 
 -- A row: the definitions' numbers, and those reckoned.
 pub record Row : Type 0 where
@@ -38,15 +37,16 @@ rowsPicture = 0 ∷ 10 ∷ 20 ∷ 30 ∷ 0 ∷ 10 ∷ 20 ∷ 30 ∷ 0 ∷ 10 ∷
 abbrev pub dot : ℕ → List ℕ
 dot n = replicate n 0 ++ (1 ∷ replicate 15 0)
 
--- A block's values, its covering, the labels of the covering, and W1 to W3 of the piece with label 0.
+-- A block's values and its covering.
 abbrev pub values : List ℕ → ℕ → ℤ
 values s = blockOf (pictureOf 4 s) 0 0
 
 abbrev pub covering : List ℕ → ℕ
 covering s = pick [] (values s)
 
+-- W1, W2 and W3 of the piece with label 0, where they stand in the plane of one level: W1 upper right, W2 lower left, W3 lower right.
 abbrev pub wavelets : List ℕ → List ℤ
-wavelets s = let w = wordOf (covering s) in tabulate 3 (λ b. forward w (values s) (suc b) 0)
+wavelets s = let p = planeOf 1 4 4 s in getD p (2 * 4 + 0) (pos 0) ∷ getD p (0 * 4 + 2) (pos 0) ∷ getD p (2 * 4 + 2) (pos 0) ∷ []
 
 -- Restoring what Keep 1 leaves of the dot.
 abbrev pub dotKept : List ℤ
