@@ -1,3 +1,4 @@
 pub mod Block
+pub mod Kernel
 pub mod Laws
 pub mod Tables
