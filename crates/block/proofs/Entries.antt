@@ -22,7 +22,7 @@ use Rattle.block.proofs.Words.{labelIn, good}
 use Rattle.block.proofs.Pick.{shape-below}
 
 -- lists of one length, one after the other
-joined-map : (m : ℕ) (g : List ℕ → List ℕ) → ((w : List ℕ) → length (g w) ≡ m) → (ws : List (List ℕ)) (i j : ℕ) → i < length ws → j < m
+pub joined-map : (m : ℕ) (g : List ℕ → List ℕ) → ((w : List ℕ) → length (g w) ≡ m) → (ws : List (List ℕ)) (i j : ℕ) → i < length ws → j < m
     → getD (joined (map g ws)) (i * m + j) 0 ≡ getD (g (getD ws i [])) j 0
 joined-map m g e [] i j h l = absurd (not-suc-le-zero h)
 joined-map m g e (w ∷ ws) zero j h l =

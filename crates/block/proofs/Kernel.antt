@@ -25,7 +25,7 @@ use Rattle.block.proofs.Words.{labelIn, good}
 use Rattle.block.proofs.Entries.{cell-of, numberOf, number-cell, cell-number, number-below}
 
 -- ---- bounds
-row-bound : (i : ℕ) (x : ℕ → ℤ) (b : ℕ) → ((k : ℕ) → k < 4 → natAbs (x k) ≤ b) → natAbs (signRow i x) ≤ 4 * b
+pub row-bound : (i : ℕ) (x : ℕ → ℤ) (b : ℕ) → ((k : ℕ) → k < 4 → natAbs (x k) ≤ b) → natAbs (signRow i x) ≤ 4 * b
 row-bound i x b h = omega (arith, row-abs i x, h 0 (omega arith), h 1 (omega arith), h 2 (omega arith), h 3 (omega arith))
 
 pub forward-bound : (n b : ℕ) (v : List ℤ) → Within b v → (k s : ℕ) → natAbs (forward (wordOf n) (at v) k s) ≤ 4 * b
@@ -51,12 +51,19 @@ inverse-within n b t m h a l =
     rw (getD-tabulate 16 (λ a. inverse (wordOf n) (λ b s. at t (b * 4 + s)) a) (pos 0) a l) (back-bound b t h (placeOf (wordOf n) a) s below)
 
 -- ---- the signed sums of four numbers
-four-is : (x : ℕ → ℤ) {a b c d : ℤ} → a ≡ x 0 → b ≡ x 1 → c ≡ x 2 → d ≡ x 3 → (i : ℕ) → i < 4 → four a b c d i ≡ x i
+pub four-is : (x : ℕ → ℤ) {a b c d : ℤ} → a ≡ x 0 → b ≡ x 1 → c ≡ x 2 → d ≡ x 3 → (i : ℕ) → i < 4 → four a b c d i ≡ x i
 four-is x e f g h zero l = e
 four-is x e f g h (suc zero) l = f
 four-is x e f g h (suc (suc zero)) l = g
 four-is x e f g h (suc (suc (suc zero))) l = h
 four-is x e f g h (suc (suc (suc (suc i)))) l = absurd (omega arith)
+
+pub four-small : (b : ℕ) (p q s t : ℤ) → natAbs p ≤ b → natAbs q ≤ b → natAbs s ≤ b → natAbs t ≤ b → (i : ℕ) → i < 4 → natAbs (four p q s t i) ≤ b
+four-small b p q s t e f g h zero l = e
+four-small b p q s t e f g h (suc zero) l = f
+four-small b p q s t e f g h (suc (suc zero)) l = g
+four-small b p q s t e f g h (suc (suc (suc zero))) l = h
+four-small b p q s t e f g h (suc (suc (suc (suc i)))) l = absurd (omega arith)
 
 pub summed : (x : ℕ → ℤ) {a b c d low w1 w2 w3 : ℤ} → a ≡ x 0 → b ≡ x 1 → c ≡ x 2 → d ≡ x 3 → Bands (λ k. signRow k (four a b c d)) low w1 w2 w3 → Bands (λ k. signRow k x) low w1 w2 w3
 summed x {a} {b} {c} {d} e f g h r = record {
@@ -67,7 +74,7 @@ summed x {a} {b} {c} {d} e f g h r = record {
 }
 
 -- what is read of a number's bits
-abbrev r : ℤ → ℤ
+abbrev pub r : ℤ → ℤ
 r x = toZ w64 (ofZ w64 x)
 
 pub kept-within : (v : List ℤ) → Within (2 ^ 40) v → (a : ℕ) → a < 16 → toZ w64 (ofZ w64 (at v a)) ≡ at v a
@@ -83,6 +90,12 @@ kept-bands f h q = record {
   second = read w64 (q .second) (sfits64 (f 2) (omega (arith, h 2)));
   third = read w64 (q .third) (sfits64 (f 3) (omega (arith, h 3)));
 }
+
+-- an absolute signed sum, as its bits give it
+pub read-row : (x : ℕ → ℤ) → ((i : ℕ) → i < 4 → natAbs (x i) ≤ 2 ^ 40) → (k : ℕ) {w : ℤ} → w ≡ signRow k x → (natAbs (r w) ≡ natAbs (signRow k x)) × (natAbs (signRow k x) ≤ 4 * 2 ^ 40)
+read-row x h k e =
+    let bound = row-bound k x (2 ^ 40) h in
+    (ap natAbs (read w64 e (sfits64 (signRow k x) (omega arith))), bound)
 
 -- ---- forward: the cells of a piece, and the four pieces
 pub piece-value : (n s i k a : ℕ) (v : List ℤ) → Within (2 ^ 40) v → k ≡ s * 4 + i → i < 4 → (a ≡ cellAt n k) × (a < 16)

@@ -1,5 +1,8 @@
 pub mod All
+pub mod Best
 pub mod Blocks
+pub mod Costs
+pub mod Counts
 pub mod Entries
 pub mod Kernel
 pub mod Named
