@@ -103,7 +103,7 @@ forward-squares w g v =
     col p i l = omega arith
 
 -- numerators
-row-abs : (i : ℕ) (x : ℕ → ℤ) → natAbs (signRow i x) ≤ natAbs (x 0) + natAbs (x 1) + natAbs (x 2) + natAbs (x 3)
+pub row-abs : (i : ℕ) (x : ℕ → ℤ) → natAbs (signRow i x) ≤ natAbs (x 0) + natAbs (x 1) + natAbs (x 2) + natAbs (x 3)
 row-abs zero x = omega (arith, abs-add (x 0 +ℤ x 1 +ℤ x 2) (x 3), abs-add (x 0 +ℤ x 1) (x 2), abs-add (x 0) (x 1))
 row-abs (suc zero) x = omega (arith, abs-sub (x 0 +ℤ x 1 -ℤ x 2) (x 3), abs-sub (x 0 +ℤ x 1) (x 2), abs-add (x 0) (x 1))
 row-abs (suc (suc zero)) x = omega (arith, abs-sub (x 0 -ℤ x 1 +ℤ x 2) (x 3), abs-add (x 0 -ℤ x 1) (x 2), abs-sub (x 0) (x 1))

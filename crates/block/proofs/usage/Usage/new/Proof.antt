@@ -1,0 +1,12 @@
+-- `block::usage::Usage::new` meets its contract. Assumes nothing.
+use mathlib.Core.Path.{refl}
+use Rattle.block.specs.Usage.{countsOf}
+use Rattle.block.proofs.usage.Usage.new.Statement.{statement}
+use Rattle.block.proofs.usage.Usage.new.Tie as tie
+
+returns : tie.Need-returns
+unfolding countsOf
+returns c = refl
+
+pub new-spec : {M : Type 1} → statement M
+new-spec = tie.close (tie.spec returns)
