@@ -1,19 +1,14 @@
 -- `pyramid::grid::cells_of` meets its contract. Assumes nothing.
-use mathlib.Core.Path.{_≡_, refl, sym, ap, _∙_}
-use mathlib.Core.List.{List}
-use Prim.Native.Nat.{ℕ, _+_, _*_, _-_, _/_, _%_, _<_, _≤_, _^_}
-use native.Mathlib.Numerals.{add-one}
+use mathlib.Core.Path.{_≡_, refl, sym, _∙_}
+use Prim.Native.Nat.{_+_, _*_, _-_, _<_, _≤_}
 use native.Mathlib.Omega.{arith}
-use lib.IntN.{ℤ, pos, natAbs}
-use lib.ListN.{length, getD, set, length-set, replicate, length-replicate}
+use lib.IntN.{pos}
+use lib.ListN.{length, getD, length-set}
 use Rattle.integers.proofs.Half.{half, half-store, half-end}
 use Rattle.integers.proofs.Signs.{kept}
 use Rattle.integers.proofs.Tabulate.{length-tabulate, getD-tabulate}
-use Rattle.slices.specs.Stores.{scatter}
-use Rattle.slices.proofs.Stores.{scatter-length}
-use Rattle.block.specs.Kernel.{at}
-use Rattle.pyramid.specs.Grid.{cellPlace, bandPlace, gathered, weighted}
-use Rattle.pyramid.proofs.Near.{column-near, result-near}
+use Rattle.pyramid.specs.Grid.{cellPlace, gathered}
+use Rattle.pyramid.proofs.Near.{column-near}
 use borrow.Author.Needs.{needs}
 use Rattle.pyramid.proofs.grid.cells_of.Statement.{statement}
 use Rattle.pyramid.proofs.grid.cells_of.Tie as tie

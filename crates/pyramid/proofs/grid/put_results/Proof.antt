@@ -1,19 +1,14 @@
 -- `pyramid::grid::put_results` meets its contract. Assumes nothing.
-use mathlib.Core.Path.{_≡_, refl, sym, ap, _∙_}
-use mathlib.Core.List.{List}
-use Prim.Native.Nat.{ℕ, _+_, _*_, _-_, _/_, _%_, _<_, _≤_, _^_}
+use mathlib.Core.Path.{_≡_, refl}
+use Prim.Native.Nat.{ℕ, _+_, _-_, _/_, _<_, _≤_}
 use native.Mathlib.Numerals.{add-one}
 use native.Mathlib.Omega.{arith}
-use lib.IntN.{ℤ, pos, natAbs}
-use lib.ListN.{length, getD, set, length-set, replicate, length-replicate}
-use Rattle.integers.proofs.Half.{half, half-store, half-end}
+use lib.ListN.{length, getD, length-set}
 use Rattle.integers.proofs.Signs.{kept}
-use Rattle.integers.proofs.Tabulate.{length-tabulate, getD-tabulate}
 use Rattle.slices.specs.Stores.{scatter}
-use Rattle.slices.proofs.Stores.{scatter-length}
 use Rattle.block.specs.Kernel.{at}
-use Rattle.pyramid.specs.Grid.{cellPlace, bandPlace, gathered, weighted}
-use Rattle.pyramid.proofs.Near.{column-near, result-near}
+use Rattle.pyramid.specs.Grid.{bandPlace}
+use Rattle.pyramid.proofs.Near.{result-near}
 use borrow.Author.Needs.{needs}
 use Rattle.pyramid.proofs.grid.put_results.Statement.{statement}
 use Rattle.pyramid.proofs.grid.put_results.Tie as tie
