@@ -18,7 +18,7 @@ use Rattle.block.proofs.Pick.{shape-below, cost-cong, pick-number, pick-least}
 use Rattle.integers.proofs.Index.{index-bound, column-row, column-col}
 use Rattle.pyramid.proofs.Slices.{Agree}
 
-chosen-length : (h : ℕ) (A : Image) (n : ℕ) → length (chosenTo h A n) ≡ n
+pub chosen-length : (h : ℕ) (A : Image) (n : ℕ) → length (chosenTo h A n) ≡ n
 unfolding chosenTo
 chosen-length h A zero = refl
 chosen-length h A (suc n) = length-append (chosenTo h A n) (pick (chosenTo h A n) (blockOf A (n % (h / 4)) (n / (h / 4))) ∷ []) ∙ add (chosen-length h A n)
@@ -26,7 +26,7 @@ chosen-length h A (suc n) = length-append (chosenTo h A n) (pick (chosenTo h A n
     add : {m : ℕ} → m ≡ n → m + 1 ≡ suc n
     add e = omega arith
 
-chosen-at : (h : ℕ) (A : Image) (n k : ℕ) → k < n → getD (chosenTo h A n) k 0 ≡ pick (chosenTo h A k) (blockOf A (k % (h / 4)) (k / (h / 4)))
+pub chosen-at : (h : ℕ) (A : Image) (n k : ℕ) → k < n → getD (chosenTo h A n) k 0 ≡ pick (chosenTo h A k) (blockOf A (k % (h / 4)) (k / (h / 4)))
 unfolding chosenTo
 chosen-at h A zero k l = absurd (omega arith)
 chosen-at h A (suc n) k l = go (decLt k n) (chosen-at h A n k)
@@ -44,10 +44,10 @@ chosen-at h A (suc n) k l = go (decLt k n) (chosen-at h A n k)
 
 -- the coverings of the first level, and the others
 module _ (h w : ℕ) (A : Image) (r : List ℕ) where
-  first-at : (k : ℕ) → k < blocks h w → listed (chosenTo h A (blocks h w) ++ r) k ≡ pick (chosenTo h A k) (blockOf A (k % (h / 4)) (k / (h / 4)))
+  pub first-at : (k : ℕ) → k < blocks h w → listed (chosenTo h A (blocks h w) ++ r) k ≡ pick (chosenTo h A k) (blockOf A (k % (h / 4)) (k / (h / 4)))
   first-at k l = List·getD-append (chosenTo h A (blocks h w)) r 0 k (omega (arith, chosen-length h A (blocks h w))) ∙ chosen-at h A (blocks h w) k l
 
-  other-at : (k : ℕ) → after (blocks h w) (listed (chosenTo h A (blocks h w) ++ r)) k ≡ listed r k
+  pub other-at : (k : ℕ) → after (blocks h w) (listed (chosenTo h A (blocks h w) ++ r)) k ≡ listed r k
   other-at k =
       ap (λ (n : ℕ). getD (chosenTo h A (blocks h w) ++ r) (n + k) 0) (sym (chosen-length h A (blocks h w)))
       ∙ getD-append-add (chosenTo h A (blocks h w)) r k 0
@@ -81,13 +81,13 @@ covers-length (suc R) h w A = go (covers R (h / 2) (w / 2) low) (covers-length R
     go r e = length-append (chosenTo h A (blocks h w)) r ∙ λ i. chosen-length h A (blocks h w) i + e i
 
 -- the transform reads the sixteen values
-forward-cong : (w : List ℕ) (v u : ℕ → ℤ) → ((k : ℕ) → k < 16 → v k ≡ u k) → (b s : ℕ) → forward w v b s ≡ forward w u b s
+pub forward-cong : (w : List ℕ) (v u : ℕ → ℤ) → ((k : ℕ) → k < 16 → v k ≡ u k) → (b s : ℕ) → forward w v b s ≡ forward w u b s
 unfolding forward
 forward-cong w v u e b s =
     let p = placeIn s (labelsOf w) in
     rows-cong b (valuesOf (shapesOf w p) v) (valuesOf (shapesOf w p) u) (λ i l. e (getD (filter (shapesOf w p) cells) i 0) (shape-below (shapesOf w p) i))
 
-block-agree : (h w : ℕ) (A B : Image) → Agree h w A B → (i j : ℕ) → i < h / 4 → j < w / 4 → (k : ℕ) → k < 16 → blockOf A i j k ≡ blockOf B i j k
+pub block-agree : (h w : ℕ) (A B : Image) → Agree h w A B → (i j : ℕ) → i < h / 4 → j < w / 4 → (k : ℕ) → k < 16 → blockOf A i j k ≡ blockOf B i j k
 block-agree h w A B e i j a b k l = e (i * 4 + k % 4) (j * 4 + k / 4) (omega arith) (omega arith)
 
 least-cong : (R h w : ℕ) → Fits R h w → (cs : ℕ → ℕ) (A B : Image) → Agree h w A B → Least R h w cs A → Least R h w cs B

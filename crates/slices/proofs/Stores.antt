@@ -35,6 +35,12 @@ module _ {A : Type 0} (g : ℕ → ℕ) (f : ℕ → A) (l : List A) where
       (λ (m : i < n). getD-set-other (scatter g f n l) (g n) (g i) (f n) d (h n m (omega arith)) ∙ scatter-in n i d m r (λ j a b. h j a (omega arith)))
       (eq-or-lt-of-le (le-of-suc-le-suc lt))
 
+-- stores of the same numbers
+pub scatter-cong : {A : Type 0} (g : ℕ → ℕ) (f k : ℕ → A) (n : ℕ) (l : List A) → ((i : ℕ) → i < n → f i ≡ k i) → scatter g f n l ≡ scatter g k n l
+unfolding scatter
+scatter-cong g f k zero l e = refl
+scatter-cong g f k (suc n) l e = λ t. set (scatter-cong g f k n l (λ i h. e i (omega arith)) t) (g n) (e n (omega arith) t)
+
 module _ (from : List ℤ) where
   pub length-pasted : (at k : ℕ) (to : List ℤ) → length (pasted from at k to) ≡ length to
   unfolding pasted

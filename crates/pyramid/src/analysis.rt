@@ -1,0 +1,26 @@
+// Decomposing: one block, one level, all levels. A level reads the upper left `tall` by `wide` entries of the plane and leaves its results in the scratch
+// slice, from which they are copied back.
+ghost use mathlib.Core.Path.{_≡_};
+ghost use Prim.Native.Nat.{ℕ, _+_, _*_, _/_, _%_, _<_, _≤_, _^_};
+ghost use lib.IntN.{ℤ, pos, natAbs};
+ghost use lib.ListN.{length, getD, replicate};
+ghost use Rattle.block.specs.Tables.{placementTable, fourTable, cellTable};
+ghost use Rattle.pyramid.specs.Plane.{Fits, blocks, allBlocks};
+ghost use Rattle.pyramid.specs.Slices.{imageOf, coversOf, planeOf};
+ghost use Rattle.pyramid.specs.Analysis.{Square, Small, Coded, Levelled};
+use block::usage::Usage;
+
+// One block of a level: its covering, and its results stored in the four bands.
+fn forward_block(placements: &[u8; 356], fours: &[u8; 468], cells: &[u8; 1872], image: &[i64], height: usize, tall: usize, wide: usize, i: usize, j: usize, usage: Usage, out: &mut [i64]) -> u8
+    requires { ⌜ (now placements ≡ placementTable) × (now fours ≡ fourTable) × (now cells ≡ cellTable) ⌝ }
+    requires { ⌜ Square height tall wide (length (now image)) (length (now out)) × (i < tall / 4) × (j < wide / 4) × Small tall wide (imageOf height (now image)) ⌝ }
+    ensures { λ r. ⌜ Coded (usage .counts) (imageOf height (now (image .entry))) height tall wide i j r (now (out .entry)) (now (out .exit)) ⌝ }
+{
+    let start = j * 4 * height + i * 4;
+    let v = crate::grid::cells_of(image, height, start);
+    let covering = block::choice::choose(placements, fours, v, usage);
+    let results = block::transform::forward(cells, covering, v);
+    let begin = crate::grid::starts(height, tall, wide, i, j);
+    crate::grid::put_results(out, height, begin, results);
+    covering
+}
