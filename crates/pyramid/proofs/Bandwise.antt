@@ -2,7 +2,7 @@
 use mathlib.Core.Path.{_≡_, refl, sym, ap, _∙_, subst, subst⁻¹}
 use mathlib.Core.List.{List}
 use Prim.Native.Nat.{ℕ, zero, suc, _+_, _*_, _/_, _%_, _^_, _<_, _≤_}
-use native.Mathlib.Nat.{add-mul, mul-le-mul-right}
+use native.Mathlib.Nat.{add-mul, mul-le-mul, mul-le-mul-right, le-trans}
 use native.Mathlib.Omega.{arith}
 use lib.IntN.{ℤ, pos, natAbs}
 use lib.ListN.{length, getD}
@@ -15,13 +15,24 @@ use Rattle.coverings.specs.Rule.{Number}
 use Rattle.block.specs.Block.{forward, pick}
 use Rattle.block.specs.Kernel.{at, Within, forwardOf}
 use Rattle.block.specs.Usage.{countsOf}
-use Rattle.pyramid.specs.Plane.{Image, top, left, blockOf}
+use Rattle.pyramid.specs.Plane.{Image, top, left, blocks, blockOf}
 use Rattle.pyramid.specs.Grid.{cellPlace, bandPlace, startsOf, gathered}
 use Rattle.pyramid.specs.Slices.{imageOf}
 use Rattle.pyramid.specs.Analysis.{Square, Small, resultOf, Coded}
 use Rattle.pyramid.proofs.Choose.{forward-cong}
 use Rattle.pyramid.proofs.Finish.{pick-cong}
 use Rattle.pyramid.proofs.Pyramid.{top-below, left-below}
+
+-- the same square in a slice as long
+pub square-in : {h tall wide m n k : ℕ} → Square h tall wide m n → k ≡ n → Square h tall wide m k
+square-in s e = record { low = s .low; narrow = s .narrow; inside = s .inside; rows = s .rows; columns = s .columns; read = s .read; stored = rw e (s .stored) }
+
+-- it has few blocks
+pub blocks-few : {h tall wide m n : ℕ} → Square h tall wide m n → blocks tall wide ≤ 128 * 128
+blocks-few s = mul-le-mul (few (s .narrow)) (few (le-trans (s .inside) (s .low)))
+  where
+    few : {n : ℕ} → n ≤ 512 → n / 4 ≤ 128
+    few l = omega arith
 
 -- the block in block row i, block column j begins here
 abbrev pub startAt : ℕ → ℕ → ℕ → ℕ

@@ -24,3 +24,28 @@ fn forward_block(placements: &[u8; 356], fours: &[u8; 468], cells: &[u8; 1872], 
     crate::grid::put_results(out, height, begin, results);
     covering
 }
+
+// One level: a covering for each block in column order, and the bands in the square. The counts start afresh.
+fn forward_level(placements: &[u8; 356], fours: &[u8; 468], cells: &[u8; 1872], image: &[i64], height: usize, tall: usize, wide: usize, first: usize, coverings: &mut [u8], out: &mut [i64])
+    requires { ⌜ (now placements ≡ placementTable) × (now fours ≡ fourTable) × (now cells ≡ cellTable) ⌝ }
+    requires { ⌜ Square height tall wide (length (now image)) (length (now out)) × (first + blocks tall wide ≤ length (now coverings)) × Small tall wide (imageOf height (now image)) ⌝ }
+    ensures { λ _. ⌜ Levelled height tall wide first (imageOf height (now (image .entry))) (now (coverings .entry)) (now (coverings .exit)) (now (out .exit)) ⌝ }
+{
+    let rows = tall / 4;
+    let count = wide / 4 * rows;
+    let mut usage = Usage::new();
+    let mut k: usize = 0;
+    let mut i: usize = 0;
+    let mut j: usize = 0;
+    while k < count {
+        let covering = forward_block(placements, fours, cells, image, height, tall, wide, i, j, usage, out);
+        coverings[first + k] = covering;
+        usage = usage.chosen(covering);
+        k += 1;
+        i += 1;
+        if i == rows {
+            i = 0;
+            j += 1;
+        }
+    }
+}
