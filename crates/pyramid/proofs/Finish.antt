@@ -119,16 +119,16 @@ finish-out R h w P y x n = go (decLt y h) (decLt x w)
     go (yes k) (no l) = rw (true-at y h k, false-at x w (omega arith)) refl
     go (no k) l = rw (false-at y h (omega arith)) refl
 
--- P after one level: inside its sides the bands, outside as it was
-pub record Stepped (h w : ℕ) (P Q : Image) : Type 0 where
+-- P, of height H, after one level: inside its sides the bands, outside as it was
+pub record Stepped (H h w : ℕ) (P Q : Image) : Type 0 where
   pub inside : Agree h w Q (layout h w (bandsOf h (listed (chosenTo h P (blocks h w))) P))
-  pub outside : (y x : ℕ) → (y < h → x < w → ⊥) → Q y x ≡ P y x
+  pub outside : (y x : ℕ) → y < H → (y < h → x < w → ⊥) → Q y x ≡ P y x
 
-module _ (R h w : ℕ) (f : Fits (suc R) h w) (P Q : Image) (s : Stepped h w P Q) where
+module _ (R H h w : ℕ) (f : Fits (suc R) h w) (P Q : Image) (s : Stepped H h w P Q) where
   abbrev first : List ℕ
   first = chosenTo h P (blocks h w)
 
-  low : Agree (h / 2) (w / 2) Q (bandsOf h (listed first) P 0)
+  pub low : Agree (h / 2) (w / 2) Q (bandsOf h (listed first) P 0)
   low y x k l = s .inside y x (omega arith) (omega arith) ∙ layout-low h w (bandsOf h (listed first) P) y x k l
 
   rest-is : covers R (h / 2) (w / 2) Q ≡ covers R (h / 2) (w / 2) (bandsOf h (listed first) P 0)
@@ -153,8 +153,8 @@ module _ (R h w : ℕ) (f : Fits (suc R) h w) (P Q : Image) (s : Stepped h w P Q
       (λ y x k l. bands-listed h w (f .0) (f .1) P first (covers R (h / 2) (w / 2) Q) (chosen-length h P (blocks h w)) 0 y x k l ∙ sym (low y x k l)) y x k l
 
   -- one level more done changes nothing of what is left
-  pub finish-step : (y x : ℕ) → finish R (h / 2) (w / 2) Q y x ≡ finish (suc R) h w P y x
-  finish-step y x = go (decLt y h) (decLt x w)
+  pub finish-step : (y x : ℕ) → y < H → finish R (h / 2) (w / 2) Q y x ≡ finish (suc R) h w P y x
+  finish-step y x z = go (decLt y h) (decLt x w)
     where
       inside : y < h → x < w → finish R (h / 2) (w / 2) Q y x ≡ layout h w whole y x
       inside k l = on (in-band h w y x (f .0) (f .1) k l)
@@ -196,5 +196,13 @@ module _ (R h w : ℕ) (f : Fits (suc R) h w) (P Q : Image) (s : Stepped h w P Q
 
       go : Dec (y < h) → Dec (x < w) → finish R (h / 2) (w / 2) Q y x ≡ finish (suc R) h w P y x
       go (yes k) (yes l) = inside k l ∙ sym (is k l)
-      go (yes k) (no l) = finish-out R (h / 2) (w / 2) Q y x (λ a b. l (omega arith)) ∙ s .outside y x (λ a b. l b) ∙ sym (finish-out (suc R) h w P y x (λ a b. l b))
-      go (no k) l = finish-out R (h / 2) (w / 2) Q y x (λ a b. k (omega arith)) ∙ s .outside y x (λ a b. k a) ∙ sym (finish-out (suc R) h w P y x (λ a b. k a))
+      go (yes k) (no l) = finish-out R (h / 2) (w / 2) Q y x (λ a b. l (omega arith)) ∙ s .outside y x z (λ a b. l b) ∙ sym (finish-out (suc R) h w P y x (λ a b. l b))
+      go (no k) l = finish-out R (h / 2) (w / 2) Q y x (λ a b. k (omega arith)) ∙ s .outside y x z (λ a b. k a) ∙ sym (finish-out (suc R) h w P y x (λ a b. k a))
+
+pub finish-zero : (h w : ℕ) (P : Image) (y x : ℕ) → finish 0 h w P y x ≡ P y x
+unfolding analyse
+finish-zero h w P y x = go (ltb y h && ltb x w)
+  where
+    go : (b : Bool) → cond b (P y x) (P y x) ≡ P y x
+    go true = refl
+    go false = refl

@@ -56,7 +56,7 @@ module _ (h w m : ℕ) (h4 : h % 4 ≡ 0) (w4 : w % 4 ≡ 0) (cs : ℕ → ℕ) 
       at-cell : (c : ℕ) → c < 16 → Upto m (blockOf A (y / 2) (x / 2) c)
       at-cell c q = a (y / 2 * 4 + c % 4) (x / 2 * 4 + c / 4) (omega arith) (omega arith)
 
-  bands-low : (y x : ℕ) → y < h / 2 → x < w / 2 → Upto (4 * m) (bandsOf h cs A 0 y x)
+  pub bands-low : (y x : ℕ) → y < h / 2 → x < w / 2 → Upto (4 * m) (bandsOf h cs A 0 y x)
   unfolding forward
   bands-low y x k l = row-low m _ (λ i. value y x (placeIn (x % 2 * 2 + y % 2) (labelsOf (wordAt h cs (y / 2) (x / 2)))) i k l)
 

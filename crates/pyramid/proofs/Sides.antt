@@ -5,7 +5,7 @@ use native.Mathlib.Nat.{pow-succ'}
 use native.Mathlib.Omega.{arith}
 use native.Mathlib.Decide.{decLt}
 use lib.Dec.{T, leb, leb→le, eqb, eqb→eq}
-use lib.Pow.{pow-lt}
+use lib.Pow.{pow-lt, pow-mono}
 use lib.ListN.{getD}
 use Rattle.integers.proofs.Tests.{both-left, both-right, upTo-at, oneOf-at}
 use Rattle.pyramid.specs.Plane.{Fits}
@@ -72,3 +72,10 @@ sized R h w s t d =
 
 pub sized-fits : {R h w : ℕ} → Sized R h w → Fits R h w
 sized-fits {R} s = rw (s .tall .is, s .wide .is) (sides-fit (s .tall .log) (s .wide .log) R (s .fewer) (s .narrower))
+
+-- sides and levels are small
+pub side-small : {n : ℕ} → Side n → n ≤ 512
+side-small s = rw (s .is) (pow-mono {i = s .log} {j = 9} (s .small))
+
+pub levels-small : {R h w : ℕ} → Sized R h w → R ≤ 8
+levels-small s = let a = s .fewer in let b = s .tall .small in omega arith
