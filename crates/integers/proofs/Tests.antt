@@ -1,6 +1,6 @@
 -- Tests: what a Boolean tells, a test of each number below n and of each entry of a list, and `ltb` as a fact.
 -- Assumes nothing.
-use mathlib.Core.Path.{_≡_, refl, subst, subst⁻¹}
+use mathlib.Core.Path.{_≡_, refl, sym, subst, subst⁻¹}
 use mathlib.Core.Logic.{_⊎_, inl, inr}
 use mathlib.Core.Bool.{Bool, true, false, not, _&&_, _||_}
 use mathlib.Core.List.{List, [], _∷_}
@@ -30,6 +30,11 @@ both-right false b t = absurd t
 pub both : (a b : Bool) → T a → T b → T (a && b)
 both true b s t = t
 both false b s t = s
+
+-- the same of flags as equations
+pub both-true : (a b : Bool) → (a && b) ≡ true → (a ≡ true) × (b ≡ true)
+both-true true b e = (refl, e)
+both-true false b e = absurd (subst T (sym e) tt)
 
 pub either : (a b : Bool) → T (a || b) → T a ⊎ T b
 either true b t = inl tt

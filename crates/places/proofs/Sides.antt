@@ -1,0 +1,32 @@
+-- The side and the levels that the checks 1 and 2 let through. Assumes nothing.
+use mathlib.Core.Path.{_≡_, sym, subst}
+use mathlib.Core.Bool.{true}
+use Prim.Native.Nat.{ℕ, _^_, _<_, _≤_}
+use lib.Dec.{T}
+use Rattle.pyramid.specs.Plane.{Fits}
+use Rattle.pyramid.specs.Sides.{isSide, isDepth}
+use Rattle.pyramid.proofs.Sides.{sized, sized-fits, side-small}
+
+pub record Passed (n R : ℕ) : Type 0 where
+  pub log : ℕ
+  pub power : n ≡ 2 ^ log
+  pub log-low : 2 ≤ log
+  pub log-high : log ≤ 9
+  pub levels : R < log
+  pub some-level : 1 ≤ R
+  pub fits : Fits R n n
+  pub small : n ≤ 512
+
+pub passed : (n R : ℕ) → isSide n ≡ true → isDepth R n n ≡ true → Passed n R
+passed n R e d =
+    let z = sized R n n (subst T (sym e) tt) (subst T (sym e) tt) (subst T (sym d) tt) in
+    record {
+      log = z .tall .log;
+      power = z .tall .is;
+      log-low = z .tall .large;
+      log-high = z .tall .small;
+      levels = z .fewer;
+      some-level = z .some;
+      fits = sized-fits z;
+      small = side-small (z .tall);
+    }

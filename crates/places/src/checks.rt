@@ -1,0 +1,164 @@
+// The checks of sides, levels, lengths, coverings and ranges, as tests.
+ghost use mathlib.Core.Path.{_≡_};
+ghost use mathlib.Core.Bool.{true};
+ghost use Prim.Native.Nat.{ℕ, _*_, _^_, _<_, _≤_};
+ghost use lib.ListN.{length};
+ghost use Rattle.integers.specs.Lists.{every};
+ghost use Rattle.coverings.specs.Entry.{isNumber};
+ghost use Rattle.pyramid.specs.Plane.{allBlocks};
+ghost use Rattle.pyramid.specs.Sides.{isSide, isDepth};
+ghost use Rattle.pyramid.specs.Slices.{imageOf};
+ghost use Rattle.pyramid.specs.Ranges.{fitsRange, inRange};
+ghost use Rattle.places.specs.Walk.{Inside, entryOf};
+ghost use Rattle.places.specs.Walk.{indexIn};
+use crate::walk::Walk;
+
+// Whether n is a side.
+pub fn is_side(n: usize) -> bool
+    ensures { λ r. ⌜ r ≡ isSide n ⌝ }
+{
+    match n {
+        4 | 8 | 16 | 32 | 64 | 128 | 256 | 512 => true,
+        _ => false,
+    }
+}
+
+// Whether a plane of this side has so many levels.
+pub fn is_depth(levels: usize, side: usize) -> bool
+    requires { ⌜ side ≤ 512 ⌝ }
+    ensures { λ r. ⌜ r ≡ isDepth levels side side ⌝ }
+{
+    match levels {
+        1 => 4 <= side,
+        2 => 8 <= side,
+        3 => 16 <= side,
+        4 => 32 <= side,
+        5 => 64 <= side,
+        6 => 128 <= side,
+        7 => 256 <= side,
+        8 => 512 <= side,
+        _ => false,
+    }
+}
+
+// The number of blocks of all levels.
+pub fn count_blocks(levels: usize, side: usize) -> usize
+    requires { ⌜ (side ≤ 512) × (levels ≤ 8) ⌝ }
+    ensures { λ r. ⌜ r ≡ allBlocks levels side side ⌝ }
+{
+    let mut total: usize = 0;
+    let mut h = side;
+    let mut left = levels;
+    while 0 < left {
+        total += (h / 4) * (h / 4);
+        h = h / 2;
+        left -= 1;
+    }
+    total
+}
+
+// Whether each covering has a number, 1 to 117.
+pub fn all_numbers(coverings: &[u8]) -> bool
+    ensures { λ r. ⌜ r ≡ every isNumber (now (coverings .entry)) ⌝ }
+{
+    let mut i = 0;
+    while i < coverings.len() {
+        let c = coverings[i];
+        if c < 1 {
+            return false;
+        }
+        if 117 < c {
+            return false;
+        }
+        i += 1;
+    }
+    true
+}
+
+// 4 to the power r.
+fn power(r: u32) -> u64
+    requires { ⌜ r ≤ 9 ⌝ }
+    ensures { λ p. ⌜ p ≡ 4 ^ r ⌝ }
+{
+    match r {
+        0 => 1,
+        1 => 4,
+        2 => 16,
+        3 => 64,
+        4 => 256,
+        5 => 1024,
+        6 => 4096,
+        7 => 16384,
+        8 => 65536,
+        _ => 262144,
+    }
+}
+
+// Whether a value at a level and a band is in its range.
+fn fits_range(levels: u32, k: Walk, v: i64) -> bool
+    requires { ⌜ (levels ≤ 9) × (1 ≤ k .level) × (k .level ≤ 9) ⌝ }
+    ensures { λ r. ⌜ r ≡ fitsRange levels (entryOf k) v ⌝ }
+{
+    let m = integers::magnitude(v);
+    if k.band == 0 {
+        if v < 0 {
+            return false;
+        }
+        return m <= 4095 * power(levels);
+    }
+    let p = k.level - 1;
+    m <= 2 * power(p) * 4095
+}
+
+// The row of the present entry of a walk in the plane.
+fn down_of(k: Walk, side: u32) -> u32
+    requires { ⌜ Inside side k ⌝ }
+    ensures { λ r. ⌜ (r ≡ (entryOf k) .down) × (r < side) ⌝ }
+{
+    if 2 <= k.band {
+        return k.height + k.row;
+    }
+    k.row
+}
+
+// Its column.
+fn across_of(k: Walk, side: u32) -> u32
+    requires { ⌜ Inside side k ⌝ }
+    ensures { λ r. ⌜ (r ≡ (entryOf k) .across) × (r < side) ⌝ }
+{
+    if k.band == 1 {
+        return k.width + k.col;
+    }
+    if k.band == 3 {
+        return k.width + k.col;
+    }
+    k.col
+}
+
+// Where the present entry of a walk stands in the plane.
+pub fn index_of(k: Walk, side: u32) -> usize
+    requires { ⌜ Inside side k ⌝ }
+    ensures { λ r. ⌜ (r ≡ indexIn side (entryOf k)) × (r < side * side) ⌝ }
+{
+    let down = down_of(k, side);
+    let across = across_of(k, side);
+    (across * side + down) as usize
+}
+
+// Whether each entry of a plane is in its range.
+pub fn in_range(plane: &[i64], side: u32, levels: u32) -> bool
+    requires { ⌜ (isSide side ≡ true) × (isDepth levels side side ≡ true) ⌝ }
+    requires { ⌜ length (now plane) ≡ side * side ⌝ }
+    ensures { λ r. ⌜ r ≡ inRange levels side side (imageOf side (now (plane .entry))) ⌝ }
+{
+    let mut k = crate::walk::first_entry(side, levels);
+    while 0 < k.left {
+        let i = index_of(k, side);
+        let v = plane[i];
+        if !fits_range(levels, k, v) {
+            return false;
+        }
+        k = crate::walk::step(k, side);
+    }
+    true
+}
