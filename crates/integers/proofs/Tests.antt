@@ -4,11 +4,13 @@ use mathlib.Core.Path.{_≡_, refl, sym, subst, subst⁻¹}
 use mathlib.Core.Logic.{_⊎_, inl, inr}
 use mathlib.Core.Bool.{Bool, true, false, not, _&&_, _||_}
 use mathlib.Core.List.{List, [], _∷_}
-use Prim.Native.Nat.{ℕ, zero, suc, _<_, _≤_}
+use Prim.Native.Nat.{ℕ, zero, suc, _+_, _<_, _≤_}
 use native.Mathlib.Nat.{not-suc-le-zero, le-of-suc-le-suc}
 use native.Mathlib.Omega.{arith}
 use lib.Dec.{T, eqb, eqb→eq, eqb-refl, ltb, ltb→lt, lt→ltb}
-use lib.ListN.{length, getD}
+use lib.ListN.{length, getD, drop, drop-of-length-le}
+use lib.Seq.{drop-cons}
+use native.Mathlib.Numerals.{add-one}
 use Rattle.integers.specs.Lists.{every, oneOf}
 
 pub is-true : (t : Bool) → T t → t ≡ true
@@ -96,3 +98,13 @@ oneOf-at (k ∷ ks) n t = go (oneOf-at ks n) (either (eqb n k) (oneOf ks n) t)
     go : (T (oneOf ks n) → (i : ℕ) × (i < length ks) × (n ≡ getD ks i 0)) → T (eqb n k) ⊎ T (oneOf ks n) → (i : ℕ) × (i < length (k ∷ ks)) × (n ≡ getD (k ∷ ks) i 0)
     go ih (inl e) = (0, omega arith, eqb→eq n k e)
     go ih (inr h) = let r = ih h in (suc (r .0), omega (arith, r .1), r .2)
+
+-- a loop that tests one entry after the other
+pub every-next : {A : Type 0} (g : A → Bool) (xs : List A) (d : A) (i : ℕ) → i < length xs → g (getD xs i d) ≡ true → every g (drop i xs) ≡ every g (drop (i + 1) xs)
+every-next g xs d i l e = rw (drop-cons xs i d l, add-one, e)
+
+pub every-stop : {A : Type 0} (g : A → Bool) (xs : List A) (d : A) (i : ℕ) → i < length xs → g (getD xs i d) ≡ false → every g (drop i xs) ≡ false
+every-stop g xs d i l e = rw (drop-cons xs i d l, e)
+
+pub every-end : {A : Type 0} (g : A → Bool) (xs : List A) (i : ℕ) → length xs ≤ i → every g (drop i xs) ≡ true
+every-end g xs i l = rw (drop-of-length-le xs l)

@@ -1,0 +1,94 @@
+-- The checks of the entries, by what their tests find. Assumes nothing.
+use mathlib.Core.Path.{_≡_, refl, sym, ap, _∙_, subst}
+use mathlib.Core.Bool.{Bool, true, false, not, _&&_}
+use mathlib.Core.List.{List}
+use Prim.Native.Nat.{ℕ, _*_, _≤_, _<_}
+use native.Mathlib.Nat.{mul-le-mul}
+use borrow.Author.Tests.{eq-eqb, ne-eqb, leb-true}
+use lib.Dec.{T, leb, leb→le}
+use lib.IntN.{ℤ, pos}
+use lib.ListN.{length, getD, replicate}
+use Rattle.refusals.specs.Refusal.{numberOf, answerOf}
+use Rattle.refusals.specs.declared.Refusal.{Refusal}
+use Rattle.refusals.specs.declared.Refusal.the-variants.{Side, Depth, Frame, Sample}
+use Rattle.refusals.specs.declared.Answer.the-variants.{Done, Refused}
+use Rattle.refusals.proofs.After.{unchanged}
+use Rattle.integers.specs.Lists.{every}
+use Rattle.integers.proofs.Tests.{every-at}
+use Rattle.pyramid.specs.Plane.{allBlocks}
+use Rattle.pyramid.specs.Sides.{isSide, isDepth, isPlane, isCoverings}
+use Rattle.pyramid.specs.Slices.{planeOf, coversOf}
+use Rattle.pyramid.proofs.Sides.{sized, side-is, side-small, levels-small}
+use Rattle.coder.specs.Entries.{isSample, decomposeRefusal, Decomposed}
+
+pub truth : {b : Bool} → b ≡ true → T b
+truth e = subst T (sym e) tt
+
+-- a side that passed is small
+pub small-side : (n : ℕ) → isSide n ≡ true → n ≤ 512
+small-side n e = side-small (side-is n (truth e))
+
+pub area-small : (n : ℕ) → n ≤ 512 → n * n ≤ 512 * 512
+area-small n l = mul-le-mul l l
+
+pub few-levels : (n R : ℕ) → isSide n ≡ true → isDepth R n n ≡ true → R ≤ 8
+few-levels n R e d = levels-small (sized R n n (truth e) (truth e) (truth d))
+
+-- samples that passed
+pub small-samples : (s : List ℕ) {n : ℕ} → every isSample s ≡ true → length s ≡ n → (k : ℕ) → k < n → getD s k 0 ≤ 4095
+small-samples s e g k h =
+    let l : k < length s = rw g h in
+    leb→le (getD s k 0) 4095 (every-at isSample s 0 (truth e) k l)
+
+-- a flag that is not the one turned
+pub not-true : {b : Bool} → not b ≡ true → b ≡ false
+not-true {b = false} e = refl
+not-true {b = true} e = sym e
+
+pub not-false : {b : Bool} → not b ≡ false → b ≡ true
+not-false {b = true} e = refl
+not-false {b = false} e = sym e
+
+module _ (side levels : ℕ) (samples : List ℕ) (plane : List ℤ) (coverings : List ℕ) (scratch : List ℤ) where
+  abbrev Refuses : Refusal → Type 0
+  Refuses r = Decomposed side levels samples plane plane coverings coverings scratch scratch (Refused r)
+
+  refuses : (r : Refusal) → numberOf r ≡ decomposeRefusal side levels samples plane coverings scratch → Refuses r
+  refuses r e = record { number = e; planes = unchanged r _ plane; covers = unchanged r _ coverings; zeros = unchanged r _ scratch }
+
+  pub no-side : isSide side ≡ false → Refuses Side
+  no-side a = refuses Side (simp a)
+
+  pub no-depth : isSide side ≡ true → isDepth levels side side ≡ false → Refuses Depth
+  no-depth a b = refuses Depth (simp (a, b))
+
+  module _ (a : isSide side ≡ true) (b : isDepth levels side side ≡ true) where
+    no-frame : (isPlane side side samples && (isPlane side side plane && (isCoverings levels side side coverings && isPlane side side scratch))) ≡ false → Refuses Frame
+    no-frame e = refuses Frame (simp (a, b, e))
+
+    pub no-samples : (length samples ≡ side * side → ⊥) → Refuses Frame
+    no-samples n = no-frame (simp (ne-eqb (length samples) (side * side) n))
+
+    module _ (c : length samples ≡ side * side) where
+      pub no-plane : (length plane ≡ side * side → ⊥) → Refuses Frame
+      no-plane n = no-frame (simp (eq-eqb (length samples) (side * side) c, ne-eqb (length plane) (side * side) n))
+
+      module _ (d : length plane ≡ side * side) where
+        pub no-coverings : (length coverings ≡ allBlocks levels side side → ⊥) → Refuses Frame
+        no-coverings n = no-frame (simp (eq-eqb (length samples) (side * side) c, eq-eqb (length plane) (side * side) d, ne-eqb (length coverings) (allBlocks levels side side) n))
+
+        module _ (e : length coverings ≡ allBlocks levels side side) where
+          pub no-scratch : (length scratch ≡ side * side → ⊥) → Refuses Frame
+          no-scratch n = no-frame (simp (eq-eqb (length samples) (side * side) c, eq-eqb (length plane) (side * side) d, eq-eqb (length coverings) (allBlocks levels side side) e, ne-eqb (length scratch) (side * side) n))
+
+          module _ (f : length scratch ≡ side * side) where
+            framed : (isPlane side side samples && (isPlane side side plane && (isCoverings levels side side coverings && isPlane side side scratch))) ≡ true
+            framed = simp (eq-eqb (length samples) (side * side) c, eq-eqb (length plane) (side * side) d, eq-eqb (length coverings) (allBlocks levels side side) e, eq-eqb (length scratch) (side * side) f)
+
+            pub no-sample : every isSample samples ≡ false → Refuses Sample
+            no-sample g = refuses Sample (simp (a, b, framed, g))
+
+            pub decomposed : every isSample samples ≡ true → (plane′ : List ℤ) (coverings′ : List ℕ) (scratch′ : List ℤ)
+                → plane′ ≡ planeOf levels side side samples → coverings′ ≡ coversOf levels side side samples → scratch′ ≡ replicate (side * side) (pos 0)
+                → Decomposed side levels samples plane plane′ coverings coverings′ scratch scratch′ Done
+            decomposed g plane′ coverings′ scratch′ p q r = record { number = simp (a, b, framed, g); planes = p; covers = q; zeros = r }

@@ -1,0 +1,52 @@
+-- The entries decompose and restore: their checks in document 01's order, their answers, and what they leave in each lent slice. Assumes nothing.
+use mathlib.Core.Path.{_≡_}
+use mathlib.Core.Bool.{Bool, not, _&&_}
+use mathlib.Core.List.{List}
+use Prim.Native.Nat.{ℕ, _*_}
+use lib.Dec.{leb}
+use lib.IntN.{ℤ, pos}
+use lib.ListN.{replicate}
+use Rattle.refusals.specs.Refusal.{refuseIf, answerOf, afterCall}
+use Rattle.refusals.specs.declared.Answer.{Answer}
+use Rattle.integers.specs.Lists.{every}
+use Rattle.coverings.specs.Entry.{isNumber}
+use Rattle.pyramid.specs.Sides.{isSide, isDepth, isPlane, isCoverings}
+use Rattle.pyramid.specs.Ranges.{inRange}
+use Rattle.pyramid.specs.Slices.{imageOf, coversOf, planeOf, numeratorsOf, samplesOf}
+
+-- Document 01, refusal 4: "over 4,095".
+abbrev pub isSample : ℕ → Bool
+isSample s = leb s 4095
+
+-- Document 01: "decompose 1 2 3 4".
+abbrev pub decomposeRefusal : ℕ → ℕ → List ℕ → List ℤ → List ℕ → List ℤ → ℕ
+decomposeRefusal side levels samples plane coverings scratch =
+    refuseIf (not (isSide side)) 1
+    (refuseIf (not (isDepth levels side side)) 2
+    (refuseIf (not (isPlane side side samples && (isPlane side side plane && (isCoverings levels side side coverings && isPlane side side scratch)))) 3
+    (refuseIf (not (every isSample samples)) 4
+    0)))
+
+-- A name with ′ is what the slice holds after the call. "A scratch slice as long as the plane holds zeros after an accepted decomposition".
+pub record Decomposed (side levels : ℕ) (samples : List ℕ) (plane plane′ : List ℤ) (coverings coverings′ : List ℕ) (scratch scratch′ : List ℤ) (answer : Answer) : Type 0 where
+  pub number : answerOf answer ≡ decomposeRefusal side levels samples plane coverings scratch
+  pub planes : plane′ ≡ afterCall (answerOf answer) (planeOf levels side side samples) plane
+  pub covers : coverings′ ≡ afterCall (answerOf answer) (coversOf levels side side samples) coverings
+  pub zeros : scratch′ ≡ afterCall (answerOf answer) (replicate (side * side) (pos 0)) scratch
+
+-- Document 01: "restore 1 2 3 5 6".
+abbrev pub restoreRefusal : ℕ → ℕ → List ℤ → List ℕ → List ℤ → List ℕ → List ℤ → ℕ
+restoreRefusal side levels plane coverings numerators samples scratch =
+    refuseIf (not (isSide side)) 1
+    (refuseIf (not (isDepth levels side side)) 2
+    (refuseIf (not (isPlane side side plane && (isCoverings levels side side coverings && (isPlane side side numerators && (isPlane side side samples && isPlane side side scratch))))) 3
+    (refuseIf (not (every isNumber coverings)) 5
+    (refuseIf (not (inRange levels side side (imageOf side plane))) 6
+    0))))
+
+-- "Numerators are given beside samples."
+pub record Restored (side levels : ℕ) (plane : List ℤ) (coverings : List ℕ) (numerators numerators′ : List ℤ) (samples samples′ : List ℕ) (scratch scratch′ : List ℤ) (answer : Answer) : Type 0 where
+  pub number : answerOf answer ≡ restoreRefusal side levels plane coverings numerators samples scratch
+  pub values : numerators′ ≡ afterCall (answerOf answer) (numeratorsOf levels side side coverings plane) numerators
+  pub image : samples′ ≡ afterCall (answerOf answer) (samplesOf levels side side coverings plane) samples
+  pub zeros : scratch′ ≡ afterCall (answerOf answer) (replicate (side * side) (pos 0)) scratch

@@ -1,0 +1,60 @@
+// The coder: the entries decompose and restore. Each looks at its checks in document 01's order, and stores nothing before the last of them has passed.
+// What the entries answer, and what they leave in the slices, is in specs/Entries.antt.
+ghost use mathlib.Core.Path.{_≡_};
+ghost use Rattle.integers.specs.Lists.{every};
+ghost use Rattle.coder.specs.Entries.{isSample, Decomposed};
+use refusals::Answer;
+use refusals::Refusal;
+
+// Whether each sample is at most 4,095.
+fn all_samples(samples: &[u16]) -> bool
+    ensures { λ r. ⌜ r ≡ every isSample (now (samples .entry)) ⌝ }
+{
+    let mut i = 0;
+    while i < samples.len() {
+        if 4095 < samples[i] {
+            return false;
+        }
+        i += 1;
+    }
+    true
+}
+
+// Decomposes a picture: its plane, its coverings, and zeros in the scratch slice. Document 01: "decompose 1 2 3 4".
+// Two wrong answers that the contract rules out: refusing a picture whose samples are all 4,095; the plane of one level less.
+pub fn decompose(
+    side: usize,
+    levels: usize,
+    samples: &[u16],
+    plane: &mut [i64],
+    coverings: &mut [u8],
+    scratch: &mut [i64],
+) -> Answer
+    ensures { λ r. ⌜ Decomposed side levels (now (samples .entry)) (now (plane .entry)) (now (plane .exit)) (now (coverings .entry)) (now (coverings .exit)) (now (scratch .entry)) (now (scratch .exit)) r ⌝ }
+{
+    if !places::checks::is_side(side) {
+        return Answer::Refused(Refusal::Side);
+    }
+    if !places::checks::is_depth(levels, side) {
+        return Answer::Refused(Refusal::Depth);
+    }
+    let area = side * side;
+    let blocks = places::checks::count_blocks(levels, side);
+    if samples.len() != area {
+        return Answer::Refused(Refusal::Frame);
+    }
+    if plane.len() != area {
+        return Answer::Refused(Refusal::Frame);
+    }
+    if coverings.len() != blocks {
+        return Answer::Refused(Refusal::Frame);
+    }
+    if scratch.len() != area {
+        return Answer::Refused(Refusal::Frame);
+    }
+    if !all_samples(samples) {
+        return Answer::Refused(Refusal::Sample);
+    }
+    pyramid::analysis::decompose_all(side, side, levels, samples, plane, coverings, scratch);
+    Answer::Done
+}

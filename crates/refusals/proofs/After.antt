@@ -1,0 +1,19 @@
+-- After a refused call everything is as it was. Assumes nothing.
+use mathlib.Core.Path.{_≡_, refl}
+use Rattle.refusals.specs.Refusal.{numberOf, afterCall}
+use Rattle.refusals.specs.declared.Refusal.{Refusal}
+use Rattle.refusals.specs.declared.Refusal.the-variants.{Side, Depth, Frame, Sample, Covering, Coefficient, Quota, Threshold, Text, Buffer, Sequence, Bench}
+
+pub unchanged : {A : Type 0} (r : Refusal) (new old : A) → old ≡ afterCall (numberOf r) new old
+unchanged Side new old = refl
+unchanged Depth new old = refl
+unchanged Frame new old = refl
+unchanged Sample new old = refl
+unchanged Covering new old = refl
+unchanged Coefficient new old = refl
+unchanged Quota new old = refl
+unchanged Threshold new old = refl
+unchanged Text new old = refl
+unchanged Buffer new old = refl
+unchanged Sequence new old = refl
+unchanged Bench new old = refl
