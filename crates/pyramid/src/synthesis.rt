@@ -2,7 +2,7 @@
 ghost use mathlib.Core.Path.{_≡_};
 ghost use mathlib.Core.List.{map};
 ghost use Prim.Native.Nat.{ℕ, _+_, _*_, _/_, _^_, _<_, _≤_};
-ghost use lib.IntN.{ℤ, pos, natAbs};
+ghost use lib.IntN.{pos, natAbs};
 ghost use lib.ListN.{length, getD, replicate};
 ghost use Rattle.block.specs.Tables.{cellTable};
 ghost use Rattle.block.specs.Kernel.{Within};
@@ -36,6 +36,7 @@ fn results_of(image: &[i64], height: usize, begin: [usize; 4], weight: u64) -> [
 }
 
 // The values of the block in block row i, block column j, stored in its cells.
+// Two wrong answers that the contract rules out: the covering of the block beside it; and the block turned.
 fn merge_block(
     cells: &[u8; 1872],
     image: &[i64],
@@ -98,6 +99,7 @@ fn merge_column(
 }
 
 // The blocks of a level, from the bands in `image` to the square of `tall` rows and `wide` columns in `out`.
+// Two wrong answers that the contract rules out: the last block column left out; and the blocks' coverings taken along rows.
 fn merge_level(
     cells: &[u8; 1872],
     image: &[i64],
@@ -133,6 +135,7 @@ fn merge_level(
 }
 
 // The numerators of a plane: each level's bands merged, the last level first. The scratch is left empty.
+// Two wrong answers that the contract rules out: each level's W counted once; and the first level merged first.
 fn synthesise(
     cells: &[u8; 1872],
     height: usize,
@@ -190,6 +193,7 @@ fn power(levels: usize) -> u64
 }
 
 // A numerator over 4 to the power `levels`, rounded to nearest, halves upward: the shift rounds down, below zero too.
+// Two wrong answers that the contract rules out: rounding toward zero; and halves downward.
 fn nearest_to(y: i64, levels: usize, unit: u64) -> i64
     requires { ⌜ (natAbs y ≤ 2 ^ 33) × (levels ≤ 8) × (unit ≡ 4 ^ levels) ⌝ }
     ensures { λ r. ⌜ r ≡ nearest levels y ⌝ }
@@ -210,7 +214,7 @@ fn hold(n: i64) -> u16
     n as u16
 }
 
-// The samples of numerators.
+// The samples of numerators. Two wrong answers that the contract rules out: no half added; and the last sample left as it was.
 fn round(numerators: &[i64], levels: usize, samples: &mut [u16])
     requires { ⌜ (levels ≤ 8) × (length (now samples) ≡ length (now numerators)) ⌝ }
     requires { ⌜ ((k : ℕ) → k < length (now numerators) → natAbs (getD (now numerators) k (pos 0)) ≤ 2 ^ 33) ⌝ }
@@ -225,6 +229,7 @@ fn round(numerators: &[i64], levels: usize, samples: &mut [u16])
 }
 
 // The numerators and the samples of a plane. The scratch is left empty.
+// Two wrong answers that the contract rules out: the samples of the plane itself; and the scratch left as the levels used it.
 pub fn restore_all(
     height: usize,
     width: usize,

@@ -36,7 +36,7 @@ nearest-to-requires : tie.Need-nearest-to-requires Inv-loop μ-loop
 nearest-to-requires c κs =
     let s = c .before .before .before .before .before in
     let i = c .before .before .loop .i in
-    (rw (kept (c .nearest-to-arg .given)) (s .pre .1 i (omega (arith, s .pre .0))), s .pre .0 .0, c .before .before .loop .inv .1)
+    (rw (kept (c .nearest-to-arg .given)) (s .pre .1 i (omega (arith, s .pre .0))), s .pre .0 .0, omega (arith, c .before .before .loop .inv .1))
 
 hold-requires : tie.Need-hold-requires Inv-loop μ-loop
 hold-requires c κs = tt
