@@ -25,7 +25,7 @@ use Rattle.pyramid.proofs.Slices.{slice-at, image-slice, slice-length}
 use Rattle.block.proofs.Blocks.{inverse-abs}
 
 -- d levels are done, R are left, and T are all: c bounds the low-pass, and twice each W as it is counted
-bounded : (d R T h w c : ℕ) → d + R ≡ T → Fits R h w → (cs : ℕ → ℕ) → Numbers (allBlocks R h w) cs → (P : Image)
+pub bounded : (d R T h w c : ℕ) → d + R ≡ T → Fits R h w → (cs : ℕ → ℕ) → Numbers (allBlocks R h w) cs → (P : Image)
     → ((y x : ℕ) → y < halved R h → x < halved R w → natAbs (P y x) ≤ c)
     → All (λ n p. 2 * (4 ^ (T - p .level) * natAbs (at P p)) ≤ c) (placesFrom false d R h w)
     → (y x : ℕ) → y < h → x < w → 2 * natAbs (numerators R h w cs P y x) ≤ c * (2 + 3 * R)
@@ -79,29 +79,31 @@ bounded d (suc R) T h w c e f cs ns P low tet y x k l =
     merged : ((y x : ℕ) → y < h / 2 → x < w / 2 → 2 * natAbs (numerators R (h / 2) (w / 2) (after (blocks h w) cs) P y x) ≤ c * (2 + 3 * R)) → 2 * natAbs (mergeOf h cs B y x) ≤ c * (2 + 3 * suc R)
     merged ih = omega (arith, row, ih y′ x′ y-below x-below, level 0 (omega arith), level 1 (omega arith), level 2 (omega arith))
 
+-- the low-pass of a plane in range, and its tetrolet coefficients as they are counted
+module _ (R h w : ℕ) (P : Image) (r : InRange R h w P) where
+  pub low-size : (y x : ℕ) → y < halved R h → x < halved R w → natAbs (P y x) ≤ 4095 * 4 ^ R
+  low-size y x k l = let q = r .low y x k l in subst⁻¹ (λ (z : ℤ). natAbs z ≤ 4095 * 4 ^ R) (q .1) (q .2)
+
+  pub tetrolet-size : All (λ n p. 2 * (4 ^ (R - p .level) * natAbs (at P p)) ≤ 4095 * 4 ^ R) (tetroletPlaces R h w)
+  tetrolet-size n l = go ((getD (tetroletPlaces R h w) n none) .level) (natAbs (at P (getD (tetroletPlaces R h w) n none))) (places-levels 0 R R h w (omega arith) n l) (r .tetrolet n l)
+    where
+      go : (v a : ℕ) → (0 < v) × (v ≤ R) → a ≤ 2 * 4 ^ (v - 1) * 4095 → 2 * (4 ^ (R - v) * a) ≤ 4095 * 4 ^ R
+      go zero a i b = absurd (omega arith)
+      go (suc v) a i b = subst⁻¹ (λ (m : ℕ). 2 * (4 ^ (R - suc v) * a) ≤ 4095 * m) power (last (4 ^ v) (4 ^ (R - suc v)) (subst (λ (m : ℕ). a ≤ 2 * 4 ^ m * 4095) one-less b))
+        where
+          one-less : suc v - 1 ≡ v
+          one-less = omega arith
+
+          power : 4 ^ R ≡ 4 * 4 ^ v * 4 ^ (R - suc v)
+          power =
+              let q : R ≡ suc v + (R - suc v) = omega arith in
+              ap (λ (m : ℕ). 4 ^ m) q ∙ pow-add 4 (suc v) (R - suc v) ∙ ap (λ (m : ℕ). m * 4 ^ (R - suc v)) (pow-succ' 4 v)
+
+          last : (p q : ℕ) → a ≤ 2 * p * 4095 → 2 * (q * a) ≤ 4095 * (4 * p * q)
+          last p q h = omega (arith, mul-le-mul-left q h)
+
 pub bounds : (R h w : ℕ) → Fits R h w → (cs : ℕ → ℕ) → Numbers (allBlocks R h w) cs → (P : Image) → InRange R h w P → (y x : ℕ) → y < h → x < w → 2 * natAbs (numerators R h w cs P y x) ≤ 4095 * 4 ^ R * (2 + 3 * R)
-bounds R h w f cs ns P r = bounded 0 R R h w (4095 * 4 ^ R) (omega arith) f cs ns P low tet
-  where
-    low : (y x : ℕ) → y < halved R h → x < halved R w → natAbs (P y x) ≤ 4095 * 4 ^ R
-    low y x k l = let q = r .low y x k l in subst⁻¹ (λ (z : ℤ). natAbs z ≤ 4095 * 4 ^ R) (q .1) (q .2)
-
-    tet : All (λ n p. 2 * (4 ^ (R - p .level) * natAbs (at P p)) ≤ 4095 * 4 ^ R) (tetroletPlaces R h w)
-    tet n l = go ((getD (tetroletPlaces R h w) n none) .level) (natAbs (at P (getD (tetroletPlaces R h w) n none))) (places-levels 0 R R h w (omega arith) n l) (r .tetrolet n l)
-      where
-        go : (v a : ℕ) → (0 < v) × (v ≤ R) → a ≤ 2 * 4 ^ (v - 1) * 4095 → 2 * (4 ^ (R - v) * a) ≤ 4095 * 4 ^ R
-        go zero a i b = absurd (omega arith)
-        go (suc v) a i b = subst⁻¹ (λ (m : ℕ). 2 * (4 ^ (R - suc v) * a) ≤ 4095 * m) power (last (4 ^ v) (4 ^ (R - suc v)) (subst (λ (m : ℕ). a ≤ 2 * 4 ^ m * 4095) one-less b))
-          where
-            one-less : suc v - 1 ≡ v
-            one-less = omega arith
-
-            power : 4 ^ R ≡ 4 * 4 ^ v * 4 ^ (R - suc v)
-            power =
-                let q : R ≡ suc v + (R - suc v) = omega arith in
-                ap (λ (m : ℕ). 4 ^ m) q ∙ pow-add 4 (suc v) (R - suc v) ∙ ap (λ (m : ℕ). m * 4 ^ (R - suc v)) (pow-succ' 4 v)
-
-            last : (p q : ℕ) → a ≤ 2 * p * 4095 → 2 * (q * a) ≤ 4095 * (4 * p * q)
-            last p q h = omega (arith, mul-le-mul-left q h)
+bounds R h w f cs ns P r = bounded 0 R R h w (4095 * 4 ^ R) (omega arith) f cs ns P (low-size R h w P r) (tetrolet-size R h w P r)
 
 -- exact restoring, of samples
 getD-map : {A B : Type 0} (f : A → B) (l : List A) (a : A) (b : B) (n : ℕ) → n < length l → getD (map f l) n b ≡ f (getD l n a)
