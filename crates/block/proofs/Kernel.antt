@@ -4,12 +4,14 @@ use mathlib.Core.List.{List, [], _∷_}
 use Prim.Native.Nat.{ℕ, zero, suc, _+_, _*_, _/_, _%_, _^_, _≤_, _<_}
 use native.Mathlib.Omega.{arith}
 use native.Mathlib.Decide.{ℕ-discrete}
+use lib.Dec.{T, ltb, ltb→lt}
 use lib.IntN.{ℤ, pos, natAbs}
 use lib.ListN.{length, getD, set}
 use lib.Seq.{ext-getD, getD-set-same, getD-set-other}
 use mir.Syntax.{w64}
 use mir.Val.{toZ, ofZ}
 use Rattle.integers.proofs.Bound.{sfits64, read}
+use Rattle.integers.proofs.Tests.{upTo, upTo-at}
 use Rattle.integers.proofs.Tabulate.{length-tabulate, getD-tabulate}
 use Rattle.integers.proofs.Index.{column-row, column-col}
 use Rattle.coverings.specs.Block.{cells, filter, nameOf}
@@ -25,6 +27,10 @@ use Rattle.block.proofs.Words.{labelIn, good}
 use Rattle.block.proofs.Entries.{cell-of, numberOf, number-cell, cell-number, number-below}
 
 -- ---- bounds
+-- a caller's block of known numbers, by computation
+pub within-test : (b : ℕ) (v : List ℤ) → T (upTo 16 (λ a. ltb (natAbs (at v a)) b)) → Within b v
+within-test b v t a h = let l = ltb→lt (natAbs (at v a)) b (upTo-at 16 (λ a. ltb (natAbs (at v a)) b) t a h) in omega arith
+
 pub row-bound : (i : ℕ) (x : ℕ → ℤ) (b : ℕ) → ((k : ℕ) → k < 4 → natAbs (x k) ≤ b) → natAbs (signRow i x) ≤ 4 * b
 row-bound i x b h = omega (arith, row-abs i x, h 0 (omega arith), h 1 (omega arith), h 2 (omega arith), h 3 (omega arith))
 
