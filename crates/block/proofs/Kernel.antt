@@ -1,5 +1,5 @@
 -- The transform of one block on lists: bounds of its results, the signed sums of a piece, and the order of the labelled cells. Assumes nothing.
-use mathlib.Core.Path.{_≡_, refl, sym, ap, _∙_, subst}
+use mathlib.Core.Path.{_≡_, refl, sym, ap, _∙_}
 use mathlib.Core.List.{List, [], _∷_}
 use Prim.Native.Nat.{ℕ, zero, suc, _+_, _*_, _/_, _%_, _^_, _≤_, _<_}
 use native.Mathlib.Omega.{arith}
@@ -12,7 +12,7 @@ use mir.Syntax.{w64}
 use mir.Val.{toZ, ofZ}
 use Rattle.integers.proofs.Bound.{sfits64, read}
 use Rattle.integers.proofs.Tests.{upTo, upTo-at}
-use Rattle.integers.proofs.Tabulate.{length-tabulate, getD-tabulate}
+use Rattle.integers.proofs.Tabulate.{getD-tabulate}
 use Rattle.integers.proofs.Index.{column-row, column-col}
 use Rattle.coverings.specs.Block.{cells, filter, nameOf}
 use Rattle.coverings.specs.Words.{wordOf}
@@ -21,7 +21,7 @@ use Rattle.block.specs.Block.{signRow, valuesOf, shapesOf, placeIn, plac
 use Rattle.block.specs.Tables.{pieceOf}
 use Rattle.block.specs.Kernel.{at, Within, forwardOf, inverseOf, cellAt, four, Bands, piecewise}
 use Rattle.block.proofs.Rows.{rows-cong}
-use Rattle.block.proofs.Blocks.{row-abs, inverse-abs}
+use Rattle.block.proofs.Blocks.{row-abs}
 use Rattle.block.proofs.Pick.{shape-below}
 use Rattle.block.proofs.Words.{labelIn, good}
 use Rattle.block.proofs.Entries.{cell-of, numberOf, number-cell, cell-number, number-below}
