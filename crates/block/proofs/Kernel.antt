@@ -1,16 +1,18 @@
 -- The transform of one block on lists: bounds of its results, the signed sums of a piece, and the order of the labelled cells. Assumes nothing.
-use mathlib.Core.Path.{_≡_, refl, sym, ap, _∙_, subst}
+use mathlib.Core.Path.{_≡_, refl, sym, ap, _∙_}
 use mathlib.Core.List.{List, [], _∷_}
 use Prim.Native.Nat.{ℕ, zero, suc, _+_, _*_, _/_, _%_, _^_, _≤_, _<_}
 use native.Mathlib.Omega.{arith}
 use native.Mathlib.Decide.{ℕ-discrete}
+use lib.Dec.{T, ltb, ltb→lt}
 use lib.IntN.{ℤ, pos, natAbs}
 use lib.ListN.{length, getD, set}
 use lib.Seq.{ext-getD, getD-set-same, getD-set-other}
 use mir.Syntax.{w64}
 use mir.Val.{toZ, ofZ}
 use Rattle.integers.proofs.Bound.{sfits64, read}
-use Rattle.integers.proofs.Tabulate.{length-tabulate, getD-tabulate}
+use Rattle.integers.proofs.Tests.{upTo, upTo-at}
+use Rattle.integers.proofs.Tabulate.{getD-tabulate}
 use Rattle.integers.proofs.Index.{column-row, column-col}
 use Rattle.coverings.specs.Block.{cells, filter, nameOf}
 use Rattle.coverings.specs.Words.{wordOf}
@@ -19,12 +21,16 @@ use Rattle.block.specs.Block.{signRow, valuesOf, shapesOf, placeIn, plac
 use Rattle.block.specs.Tables.{pieceOf}
 use Rattle.block.specs.Kernel.{at, Within, forwardOf, inverseOf, cellAt, four, Bands, piecewise}
 use Rattle.block.proofs.Rows.{rows-cong}
-use Rattle.block.proofs.Blocks.{row-abs, inverse-abs}
+use Rattle.block.proofs.Blocks.{row-abs}
 use Rattle.block.proofs.Pick.{shape-below}
 use Rattle.block.proofs.Words.{labelIn, good}
 use Rattle.block.proofs.Entries.{cell-of, numberOf, number-cell, cell-number, number-below}
 
 -- ---- bounds
+-- a caller's block of known numbers, by computation
+pub within-test : (b : ℕ) (v : List ℤ) → T (upTo 16 (λ a. ltb (natAbs (at v a)) b)) → Within b v
+within-test b v t a h = let l = ltb→lt (natAbs (at v a)) b (upTo-at 16 (λ a. ltb (natAbs (at v a)) b) t a h) in omega arith
+
 pub row-bound : (i : ℕ) (x : ℕ → ℤ) (b : ℕ) → ((k : ℕ) → k < 4 → natAbs (x k) ≤ b) → natAbs (signRow i x) ≤ 4 * b
 row-bound i x b h = omega (arith, row-abs i x, h 0 (omega arith), h 1 (omega arith), h 2 (omega arith), h 3 (omega arith))
 

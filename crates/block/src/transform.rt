@@ -1,7 +1,7 @@
 // The tetrolet transform of one block by a given covering, and its inverse.
 ghost use mathlib.Core.Path.{_≡_};
-ghost use Prim.Native.Nat.{ℕ, _+_, _*_, _^_, _≤_, _<_};
-ghost use lib.IntN.{ℤ, natAbs};
+ghost use Prim.Native.Nat.{_+_, _*_, _^_, _≤_, _<_};
+ghost use lib.IntN.{natAbs};
 ghost use Rattle.coverings.specs.Words.{wordOf};
 ghost use Rattle.coverings.specs.Rule.{Number};
 ghost use Rattle.block.specs.Block.{signRow, forward};

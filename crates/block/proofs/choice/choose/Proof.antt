@@ -1,5 +1,5 @@
 -- `block::choice::choose` meets its contract. The loop's invariant: the best is the choice among the coverings below n. Assumes nothing.
-use mathlib.Core.Path.{_≡_, refl, sym, ap, _∙_}
+use mathlib.Core.Path.{_≡_}
 use mathlib.Core.List.{List}
 use Prim.Native.Nat.{ℕ, _-_}
 use native.Mathlib.Omega.{arith}

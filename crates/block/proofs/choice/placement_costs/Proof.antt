@@ -1,10 +1,9 @@
 -- `block::choice::placement_costs` meets its contract. The loop's invariant: the costs passed are there. Assumes nothing.
-use mathlib.Core.Path.{_≡_, refl, sym, ap, _∙_}
-use Prim.Native.Nat.{ℕ, _-_, _^_, _≤_, _<_}
+use mathlib.Core.Path.{_≡_, sym, _∙_}
+use Prim.Native.Nat.{_-_, _^_, _≤_}
 use native.Mathlib.Omega.{arith}
 use borrow.Author.Needs.{needs}
-use lib.ListN.{length, replicate, length-replicate}
-use Rattle.integers.proofs.Half.{half, half-store, half-end, half-length}
+use Rattle.integers.proofs.Half.{half, half-store, half-end}
 use Rattle.block.specs.Tables.{placementTable}
 use Rattle.block.specs.Kernel.{Within}
 use Rattle.block.specs.Choice.{spreads}

@@ -1,7 +1,6 @@
 -- `block::tables::fours` meets its contract: the constant is the defined table, by computation. Assumes nothing.
 use mathlib.Core.Path.{refl}
 use Rattle.coverings.specs.Words.{words}
-use Rattle.block.specs.Block.{labelsOf}
 use Rattle.block.specs.Tables.{placementList, fourTable}
 use Rattle.block.proofs.tables.fours.Statement.{statement}
 use Rattle.block.proofs.tables.fours.Tie as tie

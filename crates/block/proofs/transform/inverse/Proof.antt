@@ -1,15 +1,14 @@
 -- `block::transform::inverse` meets its contract. The loop's invariant: each cell whose number is passed has its value. Assumes nothing.
-use mathlib.Core.Path.{_≡_, refl, sym, ap, _∙_}
-use mathlib.Core.List.{List, [], _∷_}
-use Prim.Native.Nat.{ℕ, _+_, _*_, _-_, _≤_, _<_}
+use mathlib.Core.Path.{_≡_, refl, ap, _∙_}
+use mathlib.Core.List.{List}
+use Prim.Native.Nat.{ℕ, _-_, _≤_, _<_}
 use native.Mathlib.Omega.{arith}
 use borrow.Author.Needs.{needs}
-use lib.IntN.{ℤ, pos}
-use lib.ListN.{length, getD, set, length-set}
-use lib.Seq.{ext-getD, getD-set-same, getD-set-other}
+use lib.IntN.{ℤ}
+use lib.ListN.{length, length-set}
 use Rattle.coverings.specs.Rule.{Number}
 use Rattle.block.specs.Tables.{cellTable}
-use Rattle.block.specs.Kernel.{at, Within, cellAt, inverseOf}
+use Rattle.block.specs.Kernel.{at}
 use Rattle.block.proofs.Entries.{numberOf, number-below}
 use Rattle.block.proofs.Kernel.{put-more, put-all}
 use Rattle.integers.proofs.Signs.{kept}
