@@ -4,8 +4,8 @@ use crate::safe::opposite;
 use crate::safe::plus;
 use crate::safe::rest;
 use crate::safe::size;
-use crate::safe::small;
 use crate::safe::times;
+use crate::safe::total;
 use crate::safe::value_at;
 use crate::tiles::piece_at;
 
@@ -104,14 +104,15 @@ pub fn piece_values(words: &[u8], covering: u8, piece: u8, square: &[i64], at: C
 
 fn piece_cost(words: &[u8], covering: u8, piece: u8, square: &[i64], at: Corner) -> u64 {
     let w = signs(piece_values(words, covering, piece, square, at));
-    small(size(w.b)) + small(size(w.c)) + small(size(w.d))
+    total(size(w.b), total(size(w.c), size(w.d)))
 }
 
 pub fn cost(words: &[u8], covering: u8, square: &[i64], at: Corner) -> u64 {
-    small(piece_cost(words, covering, 0, square, at))
-        + small(piece_cost(words, covering, 1, square, at))
-        + small(piece_cost(words, covering, 2, square, at))
-        + small(piece_cost(words, covering, 3, square, at))
+    let zero = piece_cost(words, covering, 0, square, at);
+    let one = piece_cost(words, covering, 1, square, at);
+    let two = piece_cost(words, covering, 2, square, at);
+    let three = piece_cost(words, covering, 3, square, at);
+    total(total(zero, one), total(two, three))
 }
 
 // A list of four labels is a number below 256, two bits for a label, that of piece 0 in front.
@@ -153,9 +154,10 @@ fn is_labelling(labels: u32) -> bool {
 
 // The label of the square that a cell lies in.
 fn square_label(cell: usize) -> u32 {
-    let lower: u32 = if cell % 4 < 2 { 0 } else { 1 };
-    let right: u32 = if cell < 8 { 0 } else { 2 };
-    lower + right
+    if cell < 8 {
+        return if cell % 4 < 2 { 0 } else { 1 };
+    }
+    if cell % 4 < 2 { 2 } else { 3 }
 }
 
 // The number of cells whose label is not that of their square.

@@ -1,6 +1,7 @@
 // Keep and cut.
 use crate::frame::all_in_range;
 use crate::frame::area;
+use crate::frame::band_side;
 use crate::frame::index_of;
 use crate::frame::place;
 use crate::frame::power;
@@ -9,7 +10,6 @@ use crate::safe::minus;
 use crate::safe::plus;
 use crate::safe::put_value;
 use crate::safe::size;
-use crate::safe::small;
 use crate::safe::times;
 use crate::safe::value_at;
 
@@ -69,7 +69,7 @@ fn count(side: usize, levels: usize, plane: &[i64]) -> usize {
 }
 
 fn rank(value: i64, level: usize, levels: usize) -> usize {
-    times(small(size(value)) as usize, power(minus(levels, level)))
+    times(size(value) as usize, power(minus(levels, level)))
 }
 
 // Puts 0 for the entry of the lowest rank; of several, for the last in plane order.
@@ -98,17 +98,12 @@ fn drop_weakest(side: usize, levels: usize, plane: &mut [i64]) {
 
 // The number of tetrolet entries: the largest quota.
 pub fn most_entries(side: usize, levels: usize) -> usize {
-    minus(area(side), area(side / power_or_one(levels)))
+    minus(area(side), area(band_side(side, levels)))
 }
 
-fn power_or_one(n: usize) -> usize {
-    let p = power(n);
-    if 0 < p { p } else { 1 }
-}
-
-fn drop_to(side: usize, levels: usize, plane: &mut [i64], found: usize, quota: u64) -> usize {
+fn drop_to(side: usize, levels: usize, plane: &mut [i64], found: usize, quota: usize) -> usize {
     let mut left = found;
-    while quota < left as u64 {
+    while quota < left {
         drop_weakest(side, levels, plane);
         left -= 1;
     }
@@ -125,14 +120,14 @@ pub fn keep(side: usize, levels: usize, plane: &mut [i64], quota: u64) -> Outcom
         return refused(7);
     }
     let found = count(side, levels, plane);
-    accepted(drop_to(side, levels, plane, found, quota), 0)
+    accepted(drop_to(side, levels, plane, found, quota as usize), 0)
 }
 
 fn cut_one(side: usize, levels: usize, plane: &mut [i64], threshold: usize, n: usize) {
     let p = place(side, levels, n);
     if 0 < p.band {
         let index = index_of(side, p);
-        if (small(size(value_at(plane, index))) as usize) < times(threshold, power(p.level)) {
+        if (size(value_at(plane, index)) as usize) < times(threshold, power(p.level)) {
             put_value(plane, index, 0);
         }
     }

@@ -11,7 +11,6 @@ use crate::safe::plus;
 use crate::safe::put_sample;
 use crate::safe::rest;
 use crate::safe::size;
-use crate::safe::small;
 use crate::safe::times;
 use crate::texts::number;
 use crate::texts::put_number;
@@ -55,7 +54,7 @@ fn one_value(text: &[u8], rows: Rows, side: usize, n: usize, samples: &mut [u16]
             return bad_rows();
         }
     }
-    put_sample(samples, plus(times(col, side), row), small(size(v.value)));
+    put_sample(samples, plus(times(col, side), row), size(v.value));
     Rows {
         good: true,
         high: if v.value > 4095 { true } else { rows.high },
@@ -84,6 +83,23 @@ fn read_rows(text: &[u8], at: usize, side: usize, samples: &mut [u16]) -> Rows {
 fn put_refusal(number: u32, out: &mut [u8]) -> usize {
     let at = put_text(out, 0, b"refusal\n", true);
     put_number(out, at, number as usize, b'\n', true)
+}
+
+fn cut_picture(
+    side: usize,
+    levels: usize,
+    quota: usize,
+    samples: &[u16],
+    plane: &mut [i64],
+    scratch: &mut [i64],
+    coverings: &mut [u8],
+    out: &mut [u8],
+) -> usize {
+    let mut words = [0u8; 1872];
+    list_words(&mut words);
+    decompose(&words, side, levels, samples, plane, coverings, scratch);
+    keep(side, levels, plane, quota as u64);
+    put_sheet(side, levels, plane, coverings, out, true)
 }
 
 // What follows the header, for a side of at most 32.
@@ -115,15 +131,52 @@ fn work(
     if most_entries(side, levels) < quota {
         return put_refusal(7, out);
     }
-    let mut words = [0u8; 1872];
-    list_words(&mut words);
-    decompose(&words, side, levels, samples, plane, coverings, scratch);
-    keep(side, levels, plane, quota as u64);
-    put_sheet(side, levels, plane, coverings, out, true)
+    cut_picture(side, levels, quota, samples, plane, scratch, coverings, out)
 }
 
 fn natural(v: i64) -> usize {
-    small(size(v)) as usize
+    size(v) as usize
+}
+
+// The same on slices with room to spare, of which the parts that the side and the depth ask for are lent.
+fn work_on_parts(
+    text: &[u8],
+    at: usize,
+    side: usize,
+    levels: usize,
+    quota: usize,
+    samples: &mut [u16],
+    plane: &mut [i64],
+    scratch: &mut [i64],
+    coverings: &mut [u8],
+    out: &mut [u8],
+) -> usize {
+    let entries = area(side);
+    let blocks = all_blocks(side, levels);
+    if samples.len() < entries {
+        return 0;
+    }
+    if plane.len() < entries {
+        return 0;
+    }
+    if scratch.len() < entries {
+        return 0;
+    }
+    if coverings.len() < blocks {
+        return 0;
+    }
+    work(
+        text,
+        at,
+        side,
+        levels,
+        quota,
+        &mut samples[..entries],
+        &mut plane[..entries],
+        &mut scratch[..entries],
+        &mut coverings[..blocks],
+        out,
+    )
 }
 
 // Runs the cutter on its input; gives the length of what it prints. `out` has room for the longest sheet of side 32, 16,144 bytes.
@@ -154,24 +207,16 @@ pub fn cutter(text: &[u8], out: &mut [u8]) -> usize {
     let mut plane = [0i64; 1024];
     let mut scratch = [0i64; 1024];
     let mut coverings = [0u8; 128];
-    let entries = area(side);
-    let blocks = all_blocks(side, levels);
-    if 1024 < entries {
-        return 0;
-    }
-    if 128 < blocks {
-        return 0;
-    }
-    work(
+    work_on_parts(
         text,
         header.next,
         side,
         levels,
         natural(header.c),
-        &mut samples[..entries],
-        &mut plane[..entries],
-        &mut scratch[..entries],
-        &mut coverings[..blocks],
+        &mut samples,
+        &mut plane,
+        &mut scratch,
+        &mut coverings,
         out,
     )
 }

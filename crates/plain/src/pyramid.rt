@@ -28,7 +28,6 @@ use crate::safe::put_value;
 use crate::safe::rest;
 use crate::safe::sample_at;
 use crate::safe::size;
-use crate::safe::small;
 use crate::safe::times;
 use crate::safe::value_at;
 use crate::tiles::piece_at;
@@ -128,24 +127,32 @@ fn result_col(block_col: usize, label: u32) -> usize {
     plus(times(2, block_col), right as usize)
 }
 
+fn put_at(plane: &mut [i64], side: usize, row: usize, col: usize, v: i64) {
+    put_value(plane, plus(times(col, side), row), v);
+}
+
+fn get_at(plane: &[i64], side: usize, row: usize, col: usize) -> i64 {
+    value_at(plane, plus(times(col, side), row))
+}
+
 fn put_four(plane: &mut [i64], side: usize, half: usize, row: usize, col: usize, w: Four) {
-    put_value(plane, plus(times(col, side), row), w.a);
-    put_value(plane, plus(times(plus(col, half), side), row), w.b);
-    put_value(plane, plus(times(col, side), plus(row, half)), w.c);
-    put_value(
-        plane,
-        plus(times(plus(col, half), side), plus(row, half)),
-        w.d,
-    );
+    let below = plus(row, half);
+    let right = plus(col, half);
+    put_at(plane, side, row, col, w.a);
+    put_at(plane, side, row, right, w.b);
+    put_at(plane, side, below, col, w.c);
+    put_at(plane, side, below, right, w.d);
 }
 
 fn get_four(plane: &[i64], side: usize, half: usize, row: usize, col: usize) -> Four {
+    let below = plus(row, half);
+    let right = plus(col, half);
     Four {
         met: 4,
-        a: value_at(plane, plus(times(col, side), row)),
-        b: value_at(plane, plus(times(plus(col, half), side), row)),
-        c: value_at(plane, plus(times(col, side), plus(row, half))),
-        d: value_at(plane, plus(times(plus(col, half), side), plus(row, half))),
+        a: get_at(plane, side, row, col),
+        b: get_at(plane, side, row, right),
+        c: get_at(plane, side, below, col),
+        d: get_at(plane, side, below, right),
     }
 }
 
@@ -426,7 +433,7 @@ fn rounded(numerator: i64, levels: usize) -> u64 {
         return 0;
     }
     let whole = power(times(2, levels));
-    let up = small(size(numerator)) as usize;
+    let up = size(numerator) as usize;
     let sample = over(plus(up, whole / 2), whole);
     if sample < 4096 { sample as u64 } else { 4095 }
 }

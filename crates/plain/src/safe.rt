@@ -14,8 +14,8 @@ pub fn minus(a: usize, b: usize) -> usize {
 }
 
 pub fn times(a: usize, b: usize) -> usize {
-    if a < 4294967296 {
-        if b < 4294967296 {
+    if a < 2147483648 {
+        if b < 2147483648 {
             return a * b;
         }
     }
@@ -104,7 +104,11 @@ pub fn signed(a: u64) -> i64 {
     if a < 1099511627776 { a as i64 } else { 0 }
 }
 
-// A number below 2^40, else 0.
-pub fn small(x: u64) -> u64 {
-    if x < 1099511627776 { x } else { 0 }
+pub fn total(a: u64, b: u64) -> u64 {
+    if a < 4611686018427387904 {
+        if b < 4611686018427387904 {
+            return a + b;
+        }
+    }
+    0
 }
