@@ -6,36 +6,15 @@ use crate::frame::index_of;
 use crate::frame::place;
 use crate::frame::power;
 use crate::frame::side_and_depth;
+use crate::outcome::Outcome;
+use crate::outcome::accepted;
+use crate::outcome::refused;
 use crate::safe::minus;
 use crate::safe::plus;
 use crate::safe::put_value;
 use crate::safe::size;
 use crate::safe::times;
 use crate::safe::value_at;
-
-// A refusal, or 0 and what was asked for: a count or a length, or side and levels.
-#[repr(C)]
-pub struct Outcome {
-    pub refusal: u32,
-    pub a: usize,
-    pub b: usize,
-}
-
-pub fn refused(number: u32) -> Outcome {
-    Outcome {
-        refusal: number,
-        a: 0,
-        b: 0,
-    }
-}
-
-pub fn accepted(a: usize, b: usize) -> Outcome {
-    Outcome {
-        refusal: 0,
-        a: a,
-        b: b,
-    }
-}
 
 fn checked(side: usize, levels: usize, plane: &[i64]) -> u32 {
     let bad = side_and_depth(side, levels);

@@ -12,6 +12,7 @@ use crate::safe::put_sample;
 use crate::safe::rest;
 use crate::safe::size;
 use crate::safe::times;
+use crate::texts::natural;
 use crate::texts::number;
 use crate::texts::put_number;
 use crate::texts::put_sheet;
@@ -134,10 +135,6 @@ fn work(
     cut_picture(side, levels, quota, samples, plane, scratch, coverings, out)
 }
 
-fn natural(v: i64) -> usize {
-    size(v) as usize
-}
-
 // The same on slices with room to spare, of which the parts that the side and the depth ask for are lent.
 fn work_on_parts(
     text: &[u8],
@@ -191,8 +188,8 @@ pub fn cutter(text: &[u8], out: &mut [u8]) -> usize {
     if !header.good {
         return put_refusal(9, out);
     }
-    let side = natural(header.a);
-    let levels = natural(header.b);
+    let side = natural(header.c);
+    let levels = natural(header.d);
     let bad = side_and_depth(side, levels);
     if bad == 1 {
         return put_refusal(1, out);
@@ -212,7 +209,7 @@ pub fn cutter(text: &[u8], out: &mut [u8]) -> usize {
         header.next,
         side,
         levels,
-        natural(header.c),
+        natural(header.e),
         &mut samples,
         &mut plane,
         &mut scratch,

@@ -19,6 +19,7 @@ use crate::frame::power;
 use crate::frame::side_and_depth;
 use crate::safe::add;
 use crate::safe::byte_at;
+use crate::safe::clear;
 use crate::safe::minus;
 use crate::safe::over;
 use crate::safe::plus;
@@ -39,14 +40,6 @@ fn copy_square(from: &[i64], to: &mut [i64], side: usize, n: usize) {
     while i < end {
         let j = plus(times(over(i, n), side), rest(i, n));
         put_value(to, j, value_at(from, j));
-        i += 1;
-    }
-}
-
-fn clear(s: &mut [i64]) {
-    let mut i: usize = 0;
-    while i < s.len() {
-        put_value(s, i, 0);
         i += 1;
     }
 }

@@ -112,3 +112,12 @@ pub fn total(a: u64, b: u64) -> u64 {
     }
     0
 }
+
+// Puts 0 at every place.
+pub fn clear(s: &mut [i64]) {
+    let mut i: usize = 0;
+    while i < s.len() {
+        put_value(s, i, 0);
+        i += 1;
+    }
+}

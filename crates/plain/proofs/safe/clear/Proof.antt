@@ -1,16 +1,16 @@
--- `plain::texts::clear_plane` is safe and ends. Assumes nothing.
+-- `plain::safe::clear` is safe and ends. Assumes nothing.
 use mathlib.Core.Path.{_≡_}
 use Prim.Native.Nat.{_-_}
 use borrow.Author.Needs.{needs}
 use lib.ListN.{length}
-use Rattle.plain.proofs.texts.clear_plane.Statement.{statement}
-use Rattle.plain.proofs.texts.clear_plane.Tie as tie
+use Rattle.plain.proofs.safe.clear.Statement.{statement}
+use Rattle.plain.proofs.safe.clear.Tie as tie
 
 abbrev Inv-loop : tie.InvT-loop
-Inv-loop plane₀ i₀ plane i = length plane ≡ length plane₀
+Inv-loop s₀ i₀ s i = length s ≡ length s₀
 
 abbrev μ-loop : tie.MeasureT-loop
-μ-loop plane₀ i₀ plane i = length plane - i
+μ-loop s₀ i₀ s i = length s - i
 
 loop-holds : tie.Need-loop-holds Inv-loop μ-loop
 loop-holds c = search needs
@@ -33,8 +33,8 @@ same-length c = search needs
 returns : tie.Need-returns Inv-loop μ-loop
 returns c = search needs
 
-pub clear-plane-spec : {M : Type 1} → statement M
-clear-plane-spec =
+pub clear-spec : {M : Type 1} → statement M
+clear-spec =
     tie.close
     (tie.spec
     Inv-loop
