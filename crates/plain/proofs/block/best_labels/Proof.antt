@@ -14,10 +14,10 @@ loop-holds : tie.Need-loop-holds Inv-loop μ-loop
 loop-holds c = search needs
 
 is-labelling-requires : tie.Need-is-labelling-requires Inv-loop μ-loop
-is-labelling-requires c κs = search needs
+is-labelling-requires c κs = tt
 
 misses-requires : tie.Need-misses-requires Inv-loop μ-loop
-misses-requires c κs = search needs
+misses-requires c κs = tt
 
 add-labels : tie.Need-add-labels Inv-loop μ-loop
 add-labels c = search needs

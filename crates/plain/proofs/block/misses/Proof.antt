@@ -14,16 +14,16 @@ loop-holds : tie.Need-loop-holds Inv-loop μ-loop
 loop-holds c = search needs
 
 piece-at-requires : tie.Need-piece-at-requires Inv-loop μ-loop
-piece-at-requires c κs = search needs
+piece-at-requires c κs = tt
 
 label-requires : tie.Need-label-requires Inv-loop μ-loop
-label-requires c κs = search needs
+label-requires c κs = tt
 
 square-label-requires : tie.Need-square-label-requires Inv-loop μ-loop
-square-label-requires c κs = search needs
+square-label-requires c κs = tt
 
 one-more-requires : tie.Need-one-more-requires Inv-loop μ-loop
-one-more-requires c κs = search needs
+one-more-requires c κs = tt
 
 add-cell : tie.Need-add-cell Inv-loop μ-loop
 add-cell c = search needs

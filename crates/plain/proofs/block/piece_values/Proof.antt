@@ -14,16 +14,16 @@ loop-holds : tie.Need-loop-holds Inv-loop μ-loop
 loop-holds c = search needs
 
 piece-at-requires : tie.Need-piece-at-requires Inv-loop μ-loop
-piece-at-requires c κs = search needs
+piece-at-requires c κs = tt
 
 cell-index-requires : tie.Need-cell-index-requires Inv-loop μ-loop
-cell-index-requires c κs = search needs
+cell-index-requires c κs = tt
 
 value-at-requires : tie.Need-value-at-requires Inv-loop μ-loop
-value-at-requires c κs = search needs
+value-at-requires c κs = tt
 
 with-requires : tie.Need-with-requires Inv-loop μ-loop
-with-requires c κs = search needs
+with-requires c κs = tt
 
 add-cell : tie.Need-add-cell Inv-loop μ-loop
 add-cell c = search needs

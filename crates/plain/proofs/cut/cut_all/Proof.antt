@@ -13,13 +13,13 @@ abbrev μ-loop : tie.MeasureT-loop
 μ-loop side levels plane₀ threshold end n₀ plane n = end - n
 
 area-requires : tie.Need-area-requires Inv-loop μ-loop
-area-requires c κs = search needs
+area-requires c κs = tt
 
 loop-holds : tie.Need-loop-holds Inv-loop μ-loop
 loop-holds c = search needs
 
 cut-one-requires : tie.Need-cut-one-requires Inv-loop μ-loop
-cut-one-requires c κs = search needs
+cut-one-requires c κs = tt
 
 add-n : tie.Need-add-n Inv-loop μ-loop
 add-n c = search needs

@@ -16,7 +16,7 @@ loop-holds : tie.Need-loop-holds Inv-loop μ-loop
 loop-holds c = search needs
 
 drop-weakest-requires : tie.Need-drop-weakest-requires Inv-loop μ-loop
-drop-weakest-requires c κs = search needs
+drop-weakest-requires c κs = tt
 
 sub-left : tie.Need-sub-left Inv-loop μ-loop
 sub-left c = search needs

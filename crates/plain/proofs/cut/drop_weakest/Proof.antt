@@ -11,22 +11,22 @@ abbrev μ-loop : tie.MeasureT-loop
 μ-loop side levels plane end lowest₀ at₀ n₀ lowest at n = end - n
 
 area-requires : tie.Need-area-requires Inv-loop μ-loop
-area-requires c κs = search needs
+area-requires c κs = tt
 
 loop-holds : tie.Need-loop-holds Inv-loop μ-loop
 loop-holds c = search needs
 
 place-requires : tie.Need-place-requires Inv-loop μ-loop
-place-requires c κs = search needs
+place-requires c κs = tt
 
 index-of-requires : tie.Need-index-of-requires Inv-loop μ-loop
-index-of-requires c κs = search needs
+index-of-requires c κs = tt
 
 value-at-requires : tie.Need-value-at-requires Inv-loop μ-loop
-value-at-requires c κs = search needs
+value-at-requires c κs = tt
 
 rank-requires : tie.Need-rank-requires Inv-loop μ-loop
-rank-requires c κs = search needs
+rank-requires c κs = tt
 
 add-n : tie.Need-add-n Inv-loop μ-loop
 add-n c = search needs
@@ -38,7 +38,7 @@ loop-again : tie.Need-loop-again Inv-loop μ-loop
 loop-again c = search needs
 
 put-value-requires : tie.Need-put-value-requires Inv-loop μ-loop
-put-value-requires c κs = search needs
+put-value-requires c κs = tt
 
 same-length : tie.Need-same-length Inv-loop μ-loop
 same-length c = search needs

@@ -11,22 +11,22 @@ abbrev μ-loop : tie.MeasureT-loop
 μ-loop side levels plane end n₀ n = end - n
 
 area-requires : tie.Need-area-requires Inv-loop μ-loop
-area-requires c κs = search needs
+area-requires c κs = tt
 
 loop-holds : tie.Need-loop-holds Inv-loop μ-loop
 loop-holds c = search needs
 
 place-requires : tie.Need-place-requires Inv-loop μ-loop
-place-requires c κs = search needs
+place-requires c κs = tt
 
 index-of-requires : tie.Need-index-of-requires Inv-loop μ-loop
-index-of-requires c κs = search needs
+index-of-requires c κs = tt
 
 value-at-requires : tie.Need-value-at-requires Inv-loop μ-loop
-value-at-requires c κs = search needs
+value-at-requires c κs = tt
 
 in-range-requires : tie.Need-in-range-requires Inv-loop μ-loop
-in-range-requires c κs = search needs
+in-range-requires c κs = tt
 
 returns : tie.Need-returns Inv-loop μ-loop
 returns c = search needs

@@ -14,16 +14,16 @@ loop-holds : tie.Need-loop-holds Inv-loop μ-loop
 loop-holds c = search needs
 
 level-blocks-requires : tie.Need-level-blocks-requires Inv-loop μ-loop
-level-blocks-requires c κs = search needs
+level-blocks-requires c κs = tt
 
 block-in-level-requires : tie.Need-block-in-level-requires Inv-loop μ-loop
-block-in-level-requires c κs = search needs
+block-in-level-requires c κs = tt
 
 returns : tie.Need-returns Inv-loop μ-loop
 returns c = search needs
 
 minus-requires : tie.Need-minus-requires Inv-loop μ-loop
-minus-requires c κs = search needs
+minus-requires c κs = tt
 
 add-level : tie.Need-add-level Inv-loop μ-loop
 add-level c = search needs
@@ -35,7 +35,7 @@ loop-again : tie.Need-loop-again Inv-loop μ-loop
 loop-again c = search needs
 
 block-in-level-requires-2 : tie.Need-block-in-level-requires-2 Inv-loop μ-loop
-block-in-level-requires-2 c κs = search needs
+block-in-level-requires-2 c κs = tt
 
 returns-2 : tie.Need-returns-2 Inv-loop μ-loop
 returns-2 c = search needs

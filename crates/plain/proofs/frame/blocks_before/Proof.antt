@@ -14,10 +14,10 @@ loop-holds : tie.Need-loop-holds Inv-loop μ-loop
 loop-holds c = search needs
 
 level-blocks-requires : tie.Need-level-blocks-requires Inv-loop μ-loop
-level-blocks-requires c κs = search needs
+level-blocks-requires c κs = tt
 
 plus-requires : tie.Need-plus-requires Inv-loop μ-loop
-plus-requires c κs = search needs
+plus-requires c κs = tt
 
 add-r : tie.Need-add-r Inv-loop μ-loop
 add-r c = search needs

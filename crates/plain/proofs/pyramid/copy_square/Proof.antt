@@ -13,28 +13,28 @@ abbrev μ-loop : tie.MeasureT-loop
 μ-loop from to₀ side n end i₀ to i = end - i
 
 area-requires : tie.Need-area-requires Inv-loop μ-loop
-area-requires c κs = search needs
+area-requires c κs = tt
 
 loop-holds : tie.Need-loop-holds Inv-loop μ-loop
 loop-holds c = search needs
 
 over-requires : tie.Need-over-requires Inv-loop μ-loop
-over-requires c κs = search needs
+over-requires c κs = tt
 
 times-requires : tie.Need-times-requires Inv-loop μ-loop
-times-requires c κs = search needs
+times-requires c κs = tt
 
 rest-requires : tie.Need-rest-requires Inv-loop μ-loop
-rest-requires c κs = search needs
+rest-requires c κs = tt
 
 plus-requires : tie.Need-plus-requires Inv-loop μ-loop
-plus-requires c κs = search needs
+plus-requires c κs = tt
 
 value-at-requires : tie.Need-value-at-requires Inv-loop μ-loop
-value-at-requires c κs = search needs
+value-at-requires c κs = tt
 
 put-value-requires : tie.Need-put-value-requires Inv-loop μ-loop
-put-value-requires c κs = search needs
+put-value-requires c κs = tt
 
 add-i : tie.Need-add-i Inv-loop μ-loop
 add-i c = search needs

@@ -11,16 +11,16 @@ abbrev μ-loop : tie.MeasureT-loop
 μ-loop words covering cell piece n₀ i₀ n i = cell - i
 
 piece-at-requires : tie.Need-piece-at-requires Inv-loop μ-loop
-piece-at-requires c κs = search needs
+piece-at-requires c κs = tt
 
 loop-holds : tie.Need-loop-holds Inv-loop μ-loop
 loop-holds c = search needs
 
 piece-at-requires-2 : tie.Need-piece-at-requires-2 Inv-loop μ-loop
-piece-at-requires-2 c κs = search needs
+piece-at-requires-2 c κs = tt
 
 plus-requires : tie.Need-plus-requires Inv-loop μ-loop
-plus-requires c κs = search needs
+plus-requires c κs = tt
 
 add-i : tie.Need-add-i Inv-loop μ-loop
 add-i c = search needs

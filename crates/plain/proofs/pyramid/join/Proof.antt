@@ -16,10 +16,10 @@ loop-holds : tie.Need-loop-holds Inv-loop μ-loop
 loop-holds c = search needs
 
 minus-requires : tie.Need-minus-requires Inv-loop μ-loop
-minus-requires c κs = search needs
+minus-requires c κs = tt
 
 join-level-requires : tie.Need-join-level-requires Inv-loop μ-loop
-join-level-requires c κs = search needs
+join-level-requires c κs = tt
 
 add-done : tie.Need-add-done Inv-loop μ-loop
 add-done c = search needs
@@ -31,7 +31,7 @@ loop-again : tie.Need-loop-again Inv-loop μ-loop
 loop-again c = search needs
 
 clear-requires : tie.Need-clear-requires Inv-loop μ-loop
-clear-requires c κs = search needs
+clear-requires c κs = tt
 
 same-length : tie.Need-same-length Inv-loop μ-loop
 same-length c = search needs

@@ -13,22 +13,22 @@ abbrev μ-loop : tie.MeasureT-loop
 μ-loop words coverings square plane₀ side levels level n covering labels cell₀ plane cell = 16 - cell
 
 blocks-before-requires : tie.Need-blocks-before-requires Inv-loop μ-loop
-blocks-before-requires c κs = search needs
+blocks-before-requires c κs = tt
 
 plus-requires : tie.Need-plus-requires Inv-loop μ-loop
-plus-requires c κs = search needs
+plus-requires c κs = tt
 
 byte-at-requires : tie.Need-byte-at-requires Inv-loop μ-loop
-byte-at-requires c κs = search needs
+byte-at-requires c κs = tt
 
 best-labels-requires : tie.Need-best-labels-requires Inv-loop μ-loop
-best-labels-requires c κs = search needs
+best-labels-requires c κs = tt
 
 loop-holds : tie.Need-loop-holds Inv-loop μ-loop
 loop-holds c = search needs
 
 join-cell-requires : tie.Need-join-cell-requires Inv-loop μ-loop
-join-cell-requires c κs = search needs
+join-cell-requires c κs = tt
 
 add-cell : tie.Need-add-cell Inv-loop μ-loop
 add-cell c = search needs

@@ -13,22 +13,22 @@ abbrev μ-loop : tie.MeasureT-loop
 μ-loop words coverings plane₀ scratch side levels level blocks n₀ plane n = blocks - n
 
 minus-requires : tie.Need-minus-requires Inv-loop μ-loop
-minus-requires c κs = search needs
+minus-requires c κs = tt
 
 band-side-requires : tie.Need-band-side-requires Inv-loop μ-loop
-band-side-requires c κs = search needs
+band-side-requires c κs = tt
 
 copy-square-requires : tie.Need-copy-square-requires Inv-loop μ-loop
-copy-square-requires c κs = search needs
+copy-square-requires c κs = tt
 
 level-blocks-requires : tie.Need-level-blocks-requires Inv-loop μ-loop
-level-blocks-requires c κs = search needs
+level-blocks-requires c κs = tt
 
 loop-holds : tie.Need-loop-holds Inv-loop μ-loop
 loop-holds c = search needs
 
 join-block-requires : tie.Need-join-block-requires Inv-loop μ-loop
-join-block-requires c κs = search needs
+join-block-requires c κs = tt
 
 add-n : tie.Need-add-n Inv-loop μ-loop
 add-n c = search needs

@@ -16,13 +16,13 @@ loop-holds : tie.Need-loop-holds Inv-loop μ-loop
 loop-holds c = search needs
 
 value-at-requires : tie.Need-value-at-requires Inv-loop μ-loop
-value-at-requires c κs = search needs
+value-at-requires c κs = tt
 
 rounded-requires : tie.Need-rounded-requires Inv-loop μ-loop
-rounded-requires c κs = search needs
+rounded-requires c κs = tt
 
 put-sample-requires : tie.Need-put-sample-requires Inv-loop μ-loop
-put-sample-requires c κs = search needs
+put-sample-requires c κs = tt
 
 add-i : tie.Need-add-i Inv-loop μ-loop
 add-i c = search needs

@@ -19,7 +19,7 @@ add-level : tie.Need-add-level Inv-loop μ-loop
 add-level c = search needs
 
 split-level-requires : tie.Need-split-level-requires Inv-loop μ-loop
-split-level-requires c κs = search needs
+split-level-requires c κs = tt
 
 loop-less : tie.Need-loop-less Inv-loop μ-loop
 loop-less c = search needs
@@ -28,7 +28,7 @@ loop-again : tie.Need-loop-again Inv-loop μ-loop
 loop-again c = search needs
 
 clear-requires : tie.Need-clear-requires Inv-loop μ-loop
-clear-requires c κs = search needs
+clear-requires c κs = tt
 
 same-length : tie.Need-same-length Inv-loop μ-loop
 same-length c = search needs
