@@ -1,0 +1,52 @@
+-- `plain::pyramid::load` is safe and ends. Assumes nothing.
+use mathlib.Core.Path.{_≡_}
+use Prim.Native.Nat.{_-_}
+use borrow.Author.Needs.{needs}
+use lib.ListN.{length}
+use Rattle.plain.proofs.pyramid.load.Statement.{statement}
+use Rattle.plain.proofs.pyramid.load.Tie as tie
+
+abbrev Inv-loop : tie.InvT-loop
+Inv-loop samples plane₀ i₀ plane i = length plane ≡ length plane₀
+
+abbrev μ-loop : tie.MeasureT-loop
+μ-loop samples plane₀ i₀ plane i = length samples - i
+
+loop-holds : tie.Need-loop-holds Inv-loop μ-loop
+loop-holds c = search needs
+
+sample-at-requires : tie.Need-sample-at-requires Inv-loop μ-loop
+sample-at-requires c κs = tt
+
+put-value-requires : tie.Need-put-value-requires Inv-loop μ-loop
+put-value-requires c κs = tt
+
+add-i : tie.Need-add-i Inv-loop μ-loop
+add-i c = search needs
+
+loop-less : tie.Need-loop-less Inv-loop μ-loop
+loop-less c = search needs
+
+loop-again : tie.Need-loop-again Inv-loop μ-loop
+loop-again c = search needs
+
+same-length : tie.Need-same-length Inv-loop μ-loop
+same-length c = search needs
+
+returns : tie.Need-returns Inv-loop μ-loop
+returns c = search needs
+
+pub load-spec : {M : Type 1} → statement M
+load-spec =
+    tie.close
+    (tie.spec
+    Inv-loop
+    μ-loop
+    loop-holds
+    sample-at-requires
+    put-value-requires
+    add-i
+    loop-less
+    loop-again
+    same-length
+    returns)
