@@ -1,1 +1,4 @@
+pub mod Analysis
 pub mod Entries
+pub mod Grid
+pub mod Synthesis

@@ -6,6 +6,10 @@ ghost use Rattle.coder.specs.Entries.{isSample, Decomposed};
 use refusals::Answer;
 use refusals::Refusal;
 
+pub mod analysis;
+pub mod grid;
+pub mod synthesis;
+
 // Whether each sample is at most 4,095.
 fn all_samples(samples: &[u16]) -> bool
     ensures { λ r. ⌜ r ≡ every isSample (now (samples .entry)) ⌝ }
@@ -55,6 +59,6 @@ pub fn decompose(
     if !all_samples(samples) {
         return Answer::Refused(Refusal::Sample);
     }
-    pyramid::analysis::decompose_all(side, side, levels, samples, plane, coverings, scratch);
+    analysis::decompose_all(side, side, levels, samples, plane, coverings, scratch);
     Answer::Done
 }
