@@ -2,7 +2,7 @@
 // What the entries answer, and what they leave in the slices, is in specs/Entries.antt.
 ghost use mathlib.Core.Path.{_≡_};
 ghost use Rattle.integers.specs.Lists.{every};
-ghost use Rattle.coder.specs.Entries.{isSample, Decomposed};
+ghost use Rattle.coder.specs.Entries.{isSample, Decomposed, Restored};
 use refusals::Answer;
 use refusals::Refusal;
 
@@ -60,5 +60,60 @@ pub fn decompose(
         return Answer::Refused(Refusal::Sample);
     }
     analysis::decompose_all(side, side, levels, samples, plane, coverings, scratch);
+    Answer::Done
+}
+
+// Restores a plane by its coverings: numerators, samples, and zeros in the scratch slice. Document 01: "restore 1 2 3 5 6".
+// Two wrong answers that the contract rules out: the samples cut off instead of rounded; refusing a plane for a low-pass entry of 4,095 times 4^R.
+pub fn restore(
+    side: usize,
+    levels: usize,
+    plane: &[i64],
+    coverings: &[u8],
+    numerators: &mut [i64],
+    samples: &mut [u16],
+    scratch: &mut [i64],
+) -> Answer
+    ensures { λ r. ⌜ Restored side levels (now (plane .entry)) (now (coverings .entry)) (now (numerators .entry)) (now (numerators .exit)) (now (samples .entry)) (now (samples .exit)) (now (scratch .entry)) (now (scratch .exit)) r ⌝ }
+{
+    if !places::checks::is_side(side) {
+        return Answer::Refused(Refusal::Side);
+    }
+    if !places::checks::is_depth(levels, side) {
+        return Answer::Refused(Refusal::Depth);
+    }
+    let area = side * side;
+    let blocks = places::checks::count_blocks(levels, side);
+    if plane.len() != area {
+        return Answer::Refused(Refusal::Frame);
+    }
+    if coverings.len() != blocks {
+        return Answer::Refused(Refusal::Frame);
+    }
+    if numerators.len() != area {
+        return Answer::Refused(Refusal::Frame);
+    }
+    if samples.len() != area {
+        return Answer::Refused(Refusal::Frame);
+    }
+    if scratch.len() != area {
+        return Answer::Refused(Refusal::Frame);
+    }
+    if !places::checks::all_numbers(coverings) {
+        return Answer::Refused(Refusal::Covering);
+    }
+    if !places::checks::in_range(plane, side as u32, levels as u32) {
+        return Answer::Refused(Refusal::Coefficient);
+    }
+    synthesis::restore_all(
+        side,
+        side,
+        levels,
+        plane,
+        coverings,
+        numerators,
+        samples,
+        scratch,
+    );
     Answer::Done
 }
