@@ -6,3 +6,4 @@ pub mod Gates
 pub mod Levelwise
 pub mod Merging
 pub mod Near
+pub mod Together

@@ -1,4 +1,5 @@
 pub mod Analysis
+pub mod Claims
 pub mod Entries
 pub mod Grid
 pub mod Synthesis

@@ -2,6 +2,7 @@
 // What the entries answer, and what they leave in the slices, is in specs/Entries.antt.
 ghost use mathlib.Core.Path.{_≡_};
 ghost use Rattle.integers.specs.Lists.{every};
+ghost use Rattle.coder.specs.Claims.{CoderLaws};
 ghost use Rattle.coder.specs.Entries.{isSample, Decomposed, Restored};
 use refusals::Answer;
 use refusals::Refusal;
@@ -9,6 +10,13 @@ use refusals::Refusal;
 pub mod analysis;
 pub mod grid;
 pub mod synthesis;
+
+// The largest side. Its contract carries the laws of the two entries together, which are so a part of what the check proves.
+pub fn largest_side() -> usize
+    ensures { λ r. ⌜ (r ≡ 512) × CoderLaws ⌝ }
+{
+    512
+}
 
 // Whether each sample is at most 4,095.
 fn all_samples(samples: &[u16]) -> bool
