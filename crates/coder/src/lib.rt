@@ -68,7 +68,9 @@ pub fn decompose(
         return Answer::Refused(Refusal::Sample);
     }
     analysis::decompose_all(side, side, levels, samples, plane, coverings, scratch);
-    Answer::Done
+    // Every check has passed before the first store.
+    let done = Answer::Done;
+    done
 }
 
 // Restores a plane by its coverings: numerators, samples, and zeros in the scratch slice. Document 01: "restore 1 2 3 5 6".
