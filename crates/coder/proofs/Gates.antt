@@ -9,10 +9,9 @@ use borrow.Author.Tests.{eq-eqb, ne-eqb, leb-true}
 use lib.Dec.{T, leb, leb→le}
 use lib.IntN.{ℤ, pos}
 use lib.ListN.{length, getD, replicate}
-use Rattle.refusals.specs.Refusal.{numberOf, answerOf}
+use Rattle.refusals.specs.Refusal.{numberOf}
 use Rattle.refusals.specs.declared.Refusal.{Refusal}
 use Rattle.refusals.specs.declared.Refusal.the-variants.{Side, Depth, Frame, Sample, Covering, Coefficient}
-use Rattle.refusals.specs.declared.Answer.the-variants.{Done, Refused}
 use Rattle.refusals.proofs.After.{unchanged}
 use Rattle.integers.specs.Lists.{every}
 use Rattle.integers.proofs.Tests.{every-at, both-left, both-right}
@@ -56,7 +55,7 @@ not-false {b = false} e = sym e
 
 module _ (side levels : ℕ) (samples : List ℕ) (plane : List ℤ) (coverings : List ℕ) (scratch : List ℤ) where
   abbrev Refuses : Refusal → Type 0
-  Refuses r = Decomposed side levels samples plane plane coverings coverings scratch scratch (Refused r)
+  Refuses r = Decomposed side levels samples plane plane coverings coverings scratch scratch (numberOf r)
 
   refuses : (r : Refusal) → numberOf r ≡ decomposeRefusal side levels samples plane coverings scratch → Refuses r
   refuses r e = record { number = e; planes = unchanged r _ plane; covers = unchanged r _ coverings; zeros = unchanged r _ scratch }
@@ -95,7 +94,7 @@ module _ (side levels : ℕ) (samples : List ℕ) (plane : List ℤ) (coverings 
 
             pub decomposed : every isSample samples ≡ true → (plane′ : List ℤ) (coverings′ : List ℕ) (scratch′ : List ℤ)
                 → plane′ ≡ planeOf levels side side samples → coverings′ ≡ coversOf levels side side samples → scratch′ ≡ replicate (side * side) (pos 0)
-                → Decomposed side levels samples plane plane′ coverings coverings′ scratch scratch′ Done
+                → Decomposed side levels samples plane plane′ coverings coverings′ scratch scratch′ 0
             decomposed g plane′ coverings′ scratch′ p q r = record { number = simp (a, b, framed, g); planes = p; covers = q; zeros = r }
 
 -- the coverings and the plane that passed
@@ -111,7 +110,7 @@ ranged-plane (suc R) h w P l e = (ranged R h w P) .0 (truth e)
 
 module _ (side levels : ℕ) (plane : List ℤ) (coverings : List ℕ) (numerators : List ℤ) (samples : List ℕ) (scratch : List ℤ) where
   abbrev Rejects : Refusal → Type 0
-  Rejects r = Restored side levels plane coverings numerators numerators samples samples scratch scratch (Refused r)
+  Rejects r = Restored side levels plane coverings numerators numerators samples samples scratch scratch (numberOf r)
 
   rejects : (r : Refusal) → numberOf r ≡ restoreRefusal side levels plane coverings numerators samples scratch → Rejects r
   rejects r e = record { number = e; values = unchanged r _ numerators; image = unchanged r _ samples; zeros = unchanged r _ scratch }
@@ -161,5 +160,5 @@ module _ (side levels : ℕ) (plane : List ℤ) (coverings : List ℕ) (numerato
 
                 pub restored : inRange levels side side (imageOf side plane) ≡ true → (numerators′ : List ℤ) (samples′ : List ℕ) (scratch′ : List ℤ)
                     → numerators′ ≡ numeratorsOf levels side side coverings plane → samples′ ≡ samplesOf levels side side coverings plane → scratch′ ≡ replicate (side * side) (pos 0)
-                    → Restored side levels plane coverings numerators numerators′ samples samples′ scratch scratch′ Done
+                    → Restored side levels plane coverings numerators numerators′ samples samples′ scratch scratch′ 0
                 restored i numerators′ samples′ scratch′ p q r = record { number = simp (a, b, good-frame, h, i); values = p; image = q; zeros = r }

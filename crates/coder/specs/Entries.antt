@@ -6,8 +6,7 @@ use Prim.Native.Nat.{ℕ, _*_}
 use lib.Dec.{leb}
 use lib.IntN.{ℤ, pos}
 use lib.ListN.{replicate}
-use Rattle.refusals.specs.Refusal.{refuseIf, answerOf, afterCall}
-use Rattle.refusals.specs.declared.Answer.{Answer}
+use Rattle.refusals.specs.Refusal.{refuseIf, afterCall}
 use Rattle.integers.specs.Lists.{every}
 use Rattle.coverings.specs.Entry.{isNumber}
 use Rattle.pyramid.specs.Sides.{isSide, isDepth, isPlane, isCoverings}
@@ -27,12 +26,12 @@ decomposeRefusal side levels samples plane coverings scratch =
     (refuseIf (not (every isSample samples)) 4
     0)))
 
--- A name with ′ is what the slice holds after the call. "A scratch slice as long as the plane holds zeros after an accepted decomposition".
-pub record Decomposed (side levels : ℕ) (samples : List ℕ) (plane plane′ : List ℤ) (coverings coverings′ : List ℕ) (scratch scratch′ : List ℤ) (answer : Answer) : Type 0 where
-  pub number : answerOf answer ≡ decomposeRefusal side levels samples plane coverings scratch
-  pub planes : plane′ ≡ afterCall (answerOf answer) (planeOf levels side side samples) plane
-  pub covers : coverings′ ≡ afterCall (answerOf answer) (coversOf levels side side samples) coverings
-  pub zeros : scratch′ ≡ afterCall (answerOf answer) (replicate (side * side) (pos 0)) scratch
+-- n is the number that the call is answered with, 0 where it is accepted; a name with ′ is what the slice holds after the call. "A scratch slice as long as the plane holds zeros after an accepted decomposition".
+pub record Decomposed (side levels : ℕ) (samples : List ℕ) (plane plane′ : List ℤ) (coverings coverings′ : List ℕ) (scratch scratch′ : List ℤ) (n : ℕ) : Type 0 where
+  pub number : n ≡ decomposeRefusal side levels samples plane coverings scratch
+  pub planes : plane′ ≡ afterCall n (planeOf levels side side samples) plane
+  pub covers : coverings′ ≡ afterCall n (coversOf levels side side samples) coverings
+  pub zeros : scratch′ ≡ afterCall n (replicate (side * side) (pos 0)) scratch
 
 -- Document 01: "restore 1 2 3 5 6".
 abbrev pub restoreRefusal : ℕ → ℕ → List ℤ → List ℕ → List ℤ → List ℕ → List ℤ → ℕ
@@ -45,8 +44,8 @@ restoreRefusal side levels plane coverings numerators samples scratch =
     0))))
 
 -- "Numerators are given beside samples."
-pub record Restored (side levels : ℕ) (plane : List ℤ) (coverings : List ℕ) (numerators numerators′ : List ℤ) (samples samples′ : List ℕ) (scratch scratch′ : List ℤ) (answer : Answer) : Type 0 where
-  pub number : answerOf answer ≡ restoreRefusal side levels plane coverings numerators samples scratch
-  pub values : numerators′ ≡ afterCall (answerOf answer) (numeratorsOf levels side side coverings plane) numerators
-  pub image : samples′ ≡ afterCall (answerOf answer) (samplesOf levels side side coverings plane) samples
-  pub zeros : scratch′ ≡ afterCall (answerOf answer) (replicate (side * side) (pos 0)) scratch
+pub record Restored (side levels : ℕ) (plane : List ℤ) (coverings : List ℕ) (numerators numerators′ : List ℤ) (samples samples′ : List ℕ) (scratch scratch′ : List ℤ) (n : ℕ) : Type 0 where
+  pub number : n ≡ restoreRefusal side levels plane coverings numerators samples scratch
+  pub values : numerators′ ≡ afterCall n (numeratorsOf levels side side coverings plane) numerators
+  pub image : samples′ ≡ afterCall n (samplesOf levels side side coverings plane) samples
+  pub zeros : scratch′ ≡ afterCall n (replicate (side * side) (pos 0)) scratch

@@ -1,6 +1,7 @@
 // The coder: the entries decompose and restore. Each looks at its checks in document 01's order, and stores nothing before the last of them has passed.
 // What the entries answer, and what they leave in the slices, is in specs/Entries.antt.
 ghost use mathlib.Core.Path.{_≡_};
+ghost use Rattle.refusals.specs.Refusal.{answerOf};
 ghost use Rattle.integers.specs.Lists.{every};
 ghost use Rattle.coder.specs.Claims.{CoderLaws};
 ghost use Rattle.coder.specs.Entries.{isSample, Decomposed, Restored};
@@ -42,7 +43,7 @@ pub fn decompose(
     coverings: &mut [u8],
     scratch: &mut [i64],
 ) -> Answer
-    ensures { λ r. ⌜ Decomposed side levels (now (samples .entry)) (now (plane .entry)) (now (plane .exit)) (now (coverings .entry)) (now (coverings .exit)) (now (scratch .entry)) (now (scratch .exit)) r ⌝ }
+    ensures { λ r. ⌜ Decomposed side levels (now (samples .entry)) (now (plane .entry)) (now (plane .exit)) (now (coverings .entry)) (now (coverings .exit)) (now (scratch .entry)) (now (scratch .exit)) (answerOf r) ⌝ }
 {
     if !places::checks::is_side(side) {
         return Answer::Refused(Refusal::Side);
@@ -84,7 +85,7 @@ pub fn restore(
     samples: &mut [u16],
     scratch: &mut [i64],
 ) -> Answer
-    ensures { λ r. ⌜ Restored side levels (now (plane .entry)) (now (coverings .entry)) (now (numerators .entry)) (now (numerators .exit)) (now (samples .entry)) (now (samples .exit)) (now (scratch .entry)) (now (scratch .exit)) r ⌝ }
+    ensures { λ r. ⌜ Restored side levels (now (plane .entry)) (now (coverings .entry)) (now (numerators .entry)) (now (numerators .exit)) (now (samples .entry)) (now (samples .exit)) (now (scratch .entry)) (now (scratch .exit)) (answerOf r) ⌝ }
 {
     if !places::checks::is_side(side) {
         return Answer::Refused(Refusal::Side);

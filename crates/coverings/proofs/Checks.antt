@@ -8,8 +8,9 @@ use native.Mathlib.Decide.{decLt}
 use borrow.Author.Tests.{eq-eqb, ne-eqb, le-leb, lt-leb}
 use lib.Dec.{eqb, leb}
 use lib.ListN.{length}
-use Rattle.refusals.specs.Refusal.{afterCall, numberOf}
-use Rattle.refusals.specs.declared.Answer.the-variants.{Done, Refused}
+use Rattle.refusals.specs.Refusal.{numberOf}
+use Rattle.refusals.specs.declared.Refusal.{Refusal}
+use Rattle.refusals.proofs.After.{unchanged}
 use Rattle.refusals.specs.declared.Refusal.the-variants.{Frame, Covering}
 use Rattle.coverings.specs.Words.{wordOf}
 use Rattle.coverings.specs.Rule.{Number}
@@ -31,11 +32,14 @@ number-no n h = go (decLt n 1)
 
 -- each return of the entry
 module _ (covering : ℕ) (old : List ℕ) where
-  pub wrong-frame : (length old ≡ 16 → ⊥) → WordAnswered covering old old (Refused Frame)
-  wrong-frame h = record { number = simp (ne-eqb (length old) 16 h); slice = simp (ne-eqb (length old) 16 h) }
+  refuses : (r : Refusal) → numberOf r ≡ wordRefusal covering old → WordAnswered covering old old (numberOf r)
+  refuses r e = record { number = e; slice = unchanged r (wordOf covering) old }
 
-  pub no-covering : length old ≡ 16 → (Number covering → ⊥) → WordAnswered covering old old (Refused Covering)
-  no-covering e h = record { number = simp (eq-eqb (length old) 16 e, number-no covering h); slice = simp (eq-eqb (length old) 16 e, number-no covering h) }
+  pub wrong-frame : (length old ≡ 16 → ⊥) → WordAnswered covering old old 3
+  wrong-frame h = refuses Frame (simp (ne-eqb (length old) 16 h))
 
-  pub word-given : length old ≡ 16 → Number covering → (new : List ℕ) → new ≡ wordOf covering → WordAnswered covering old new Done
-  word-given e h new g = record { number = simp (eq-eqb (length old) 16 e, number-yes covering h); slice = simp (eq-eqb (length old) 16 e, number-yes covering h) g }
+  pub no-covering : length old ≡ 16 → (Number covering → ⊥) → WordAnswered covering old old 5
+  no-covering e h = refuses Covering (simp (eq-eqb (length old) 16 e, number-no covering h))
+
+  pub word-given : length old ≡ 16 → Number covering → (new : List ℕ) → new ≡ wordOf covering → WordAnswered covering old new 0
+  word-given e h new g = record { number = simp (eq-eqb (length old) 16 e, number-yes covering h); slice = g }

@@ -3,6 +3,7 @@
 // caller binds it once and lends it where it is read in a loop.
 ghost use mathlib.Core.Path.{_≡_};
 ghost use lib.ListN.{length};
+ghost use Rattle.refusals.specs.Refusal.{answerOf};
 ghost use Rattle.coverings.specs.Words.{table, wordOf};
 ghost use Rattle.coverings.specs.Rule.{Number, Rule};
 ghost use Rattle.coverings.specs.Entry.{WordAnswered};
@@ -1915,7 +1916,7 @@ fn copy_word(words: &[u8; 1872], covering: u8, word: &mut [u8])
 // The entry "pieces of a covering (its word)": writes the word of a covering, by its number, into a slice of sixteen places.
 // Two wrong answers that the contract rules out: refusing covering 117; and a slice of seventeen places that is written all the same.
 pub fn word_of(covering: u8, word: &mut [u8]) -> Answer
-    ensures { λ r. ⌜ WordAnswered covering (now (word .entry)) (now (word .exit)) r ⌝ }
+    ensures { λ r. ⌜ WordAnswered covering (now (word .entry)) (now (word .exit)) (answerOf r) ⌝ }
 {
     if word.len() != 16 {
         return Answer::Refused(Refusal::Frame);
