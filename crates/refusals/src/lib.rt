@@ -1,7 +1,7 @@
 // Refusals: the numbers of document 01's table "Turned-back work", and the answers that the entries give. A call is answered with its result or
 // with one refusal; specs/Refusal.antt says which number each has, and what a refused call leaves in the slices it was lent: what they held.
 ghost use mathlib.Core.Path.{_≡_};
-ghost use Rattle.refusals.specs.Refusal.{numberOf};
+ghost use Rattle.refusals.specs.Refusal.{numberOf, answerOf};
 
 // Why a call is refused. Beside each: the table's number and word.
 pub enum Refusal {
@@ -48,5 +48,16 @@ pub fn number(r: Refusal) -> u8
         Refusal::Buffer => 10,
         Refusal::Sequence => 11,
         Refusal::Bench => 12,
+    }
+}
+
+// The number of an answer: 0 where the call is accepted.
+// Two wrong answers that the contract rules out: 0 for a refusal; and the number of another refusal.
+pub fn code(a: Answer) -> u32
+    ensures { λ n. ⌜ n ≡ answerOf a ⌝ }
+{
+    match a {
+        Answer::Done => 0,
+        Answer::Refused(r) => number(r) as u32,
     }
 }
