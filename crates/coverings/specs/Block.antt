@@ -1,5 +1,4 @@
--- The block of sixteen cells, its pieces, and its cuttings into pieces.
--- Assumes nothing.
+-- The block of sixteen cells, its tetrominoes (document 01's pieces), and its cuttings into four of them. Assumes nothing.
 use mathlib.Core.Path.{_≡_}
 use mathlib.Core.Logic.{_↔_}
 use mathlib.Core.Bool.{Bool, true, false, _&&_, _||_}
@@ -8,7 +7,7 @@ use Prim.Native.Nat.{ℕ, suc, _<_, _/_, _%_}
 use lib.Dec.{T, eqb}
 use lib.ListN.{length, getD}
 
--- The cells of the block, by their indices: the cell of row r and column c has the index 4 * c + r.
+-- Document 01: "A cell's index is 4 times col plus row". The cells of the block, by their indices.
 abbrev pub cells : List ℕ
 cells = 0 ∷ 1 ∷ 2 ∷ 3 ∷ 4 ∷ 5 ∷ 6 ∷ 7 ∷ 8 ∷ 9 ∷ 10 ∷ 11 ∷ 12 ∷ 13 ∷ 14 ∷ 15 ∷ []
 
@@ -22,7 +21,7 @@ col a = a / 4
 abbrev pub next : ℕ → ℕ → Bool
 next m n = eqb (suc m) n || eqb (suc n) m
 
--- Two cells lie edge to edge: in one column and in rows next to one another, or in one row and in columns next to one another.
+-- "joined edge to edge". Two cells lie edge to edge: in one column and in rows next to one another, or in one row and in columns next to one another.
 abbrev pub beside : ℕ → ℕ → Bool
 beside a b = (eqb (col a) (col b) && next (row a) (row b)) || (eqb (row a) (row b) && next (col a) (col b))
 
@@ -40,7 +39,8 @@ pub data Walk (s : ℕ → Bool) (a : ℕ) : ℕ → Type 0 where
   stay : Walk s a a
   step : {b : ℕ} (c : ℕ) → Walk s a b → c < 16 → T (s c) → T (beside b c) → Walk s a c
 
--- A piece: a set that has four cells, joined edge to edge as a whole. From each of its cells a walk inside the set leads to each.
+-- Document 01: "A piece is four cells joined edge to edge as a whole." From each of its cells a walk inside the set leads to each; that every cell has a
+-- neighbour in the set is not enough, since two separate dominoes have that.
 pub record Tetromino (s : ℕ → Bool) : Type 0 where
   pub four : length (filter s cells) ≡ 4
   pub joined : (a b : ℕ) → a < 16 → b < 16 → T (s a) → T (s b) → Walk s a b
@@ -49,8 +49,8 @@ pub record Tetromino (s : ℕ → Bool) : Type 0 where
 abbrev pub part : (ℕ → ℕ) → ℕ → ℕ → Bool
 part name c a = eqb (name a) (name c)
 
--- A cutting of the block into pieces, under any names and in any order: the cells that share a cell's name are a piece. There are
--- then four parts, since each has four of the sixteen cells.
+-- Document 01: "A covering cuts the 16 cells into four pieces." A cutting under any names: the cells that share a cell's name are a piece. There are then
+-- four parts, since each has four of the sixteen cells.
 abbrev pub Cutting : (ℕ → ℕ) → Type 0
 Cutting name = (c : ℕ) → c < 16 → Tetromino (part name c)
 
@@ -72,15 +72,14 @@ nameOf w c = getD w c 0
 abbrev pub Smallest : List ℕ → ℕ → Type 0
 Smallest w a = (b : ℕ) → b < a → ¬ (nameOf w b ≡ nameOf w a)
 
--- A canonical word: sixteen names, one for each cell, that cut the block into pieces. The names are 0, 1, 2 and 3, in the order of
--- the smallest cells of the pieces.
+-- Document 01: "A covering's word lists, for cells 0 to 15, the piece of each; pieces are called 0, 1, 2, 3 in the order of their smallest cells."
 pub record Canonical (w : List ℕ) : Type 0 where
   pub sixteen : length w ≡ 16
   pub cuts : Cutting (nameOf w)
   pub names : (a : ℕ) → a < 16 → nameOf w a < 4
   pub inOrder : (a b : ℕ) → a < 16 → b < 16 → Smallest w a → Smallest w b → a < b → nameOf w a < nameOf w b
 
--- The order of words as strings of digits: at the first place where they differ, the first word has the lesser digit.
+-- "rising order of words compared as digit strings": at the first place where they differ, the first word has the lesser digit.
 pub record Before (v w : List ℕ) : Type 0 where
   pub place : ℕ
   pub inside : place < 16

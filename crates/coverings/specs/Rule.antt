@@ -9,10 +9,11 @@ use lib.Dec.{T}
 use Rattle.coverings.specs.Block.{Shapes, Cutting, Same, nameOf, Canonical, Before}
 use Rattle.coverings.specs.Words.{wordOf}
 
--- The number of a covering.
+-- Document 01: "Coverings are numbered 1 to 117".
 abbrev pub Number : ℕ → Type 0
 Number n = (1 ≤ n) × (n ≤ 117)
 
+-- Document 01: "The table holds 117 words of 16 digits, with every covering in it exactly once."
 pub record Rule : Type 0 where
   -- each word of the table is a canonical covering
   pub valid : (n : ℕ) → Number n → Canonical (wordOf n)

@@ -20,7 +20,7 @@ abbrev pub Fits : ℕ → ℕ → ℕ → Type 0
 Fits zero h w = Unit {0}
 Fits (suc R) h w = (h % 4 ≡ 0) × (w % 4 ≡ 0) × Fits R (h / 2) (w / 2)
 
--- The blocks of a level.
+-- Document 01: "Level r works on the low-pass square of side N/2^(r-1), with (N/2^(r+1))^2 blocks." The blocks of an h by w square.
 abbrev pub blocks : ℕ → ℕ → ℕ
 blocks h w = (w / 4) * (h / 4)
 
@@ -38,7 +38,7 @@ halved (suc R) h = halved R (h / 2)
 abbrev pub Numbers : ℕ → (ℕ → ℕ) → Type 0
 Numbers n cs = (k : ℕ) → k < n → Number (cs k)
 
--- The sixteen values of the block in block row i, block column j.
+-- The sixteen values of the block in block row i, block column j, by cell index.
 abbrev pub blockOf : Image → ℕ → ℕ → ℕ → ℤ
 blockOf A i j k = A (i * 4 + k % 4) (j * 4 + k / 4)
 
@@ -50,11 +50,12 @@ wordAt h cs i j = wordOf (cs (j * (h / 4) + i))
 abbrev pub after : ℕ → (ℕ → ℕ) → ℕ → ℕ
 after n cs k = cs (n + k)
 
--- One level: band b at row y, column x. The result with label s of a block is at row s mod 2, column s div 2 of its 2 by 2 cells.
+-- One level: band b at row y, column x. "Label s goes to row s mod 2, column s div 2 of the block's 2 by 2 result", which "fills rows 2i and 2i+1, columns
+-- 2j and 2j+1 of its band".
 abbrev pub bandsOf : ℕ → (ℕ → ℕ) → Image → ℕ → Image
 bandsOf h cs A b y x = forward (wordAt h cs (y / 2) (x / 2)) (blockOf A (y / 2) (x / 2)) b (x % 2 * 2 + y % 2)
 
--- Where a band begins: 0 upper left, 1 upper right, 2 lower left, 3 lower right.
+-- "low upper left, W1 upper right, W2 lower left, W3 lower right": where the bands 0 to 3 begin.
 abbrev pub top : ℕ → ℕ → ℕ
 top h zero = 0
 top h (suc zero) = 0
@@ -81,7 +82,7 @@ abbrev pub withLow : {A : Type 0} → (ℕ → ℕ → A) → (ℕ → ℕ → �
 withLow L B zero = L
 withLow L B (suc b) = B (suc b)
 
--- The plane of an image by given coverings: the results of the first level replace the image, those of the other levels its low-pass.
+-- "Its results replace that square": the plane of an image by given coverings; the other levels work on the low-pass of the first.
 unfoldable pub analyse : ℕ → ℕ → ℕ → (ℕ → ℕ) → Image → Image
 analyse zero h w cs A = A
 analyse (suc R) h w cs A =
@@ -92,13 +93,13 @@ abbrev pub mergeOf : ℕ → (ℕ → ℕ) → (ℕ → Image) → Image
 mergeOf h cs B y x =
     inverse (wordAt h cs (y / 4) (x / 4)) (λ b s. B b (y / 4 * 2 + s % 2) (x / 4 * 2 + s / 2)) (x % 4 * 4 + y % 4)
 
--- The numerators of a plane: W of the first of suc R levels counts 4 ^ R times.
+-- Document 01, "Restoring": "W of level r first counts 4^(R-r) times; nothing is divided." Of suc R levels the first one's W counts 4 ^ R times.
 unfoldable pub numerators : ℕ → ℕ → ℕ → (ℕ → ℕ) → Image → Image
 numerators zero h w cs P = P
 numerators (suc R) h w cs P =
     mergeOf h cs (withLow (numerators R (h / 2) (w / 2) (after (blocks h w) cs) P) (λ b y x. pos (4 ^ R) *ℤ band h w P b y x))
 
--- The coverings chosen for the first n blocks of an image, in column order.
+-- "Blocks run in column order." The coverings chosen for the first n blocks of an image; the earlier ones are those of this level.
 unfoldable pub chosenTo : ℕ → Image → ℕ → List ℕ
 chosenTo h A zero = []
 chosenTo h A (suc n) =
@@ -109,7 +110,7 @@ chosenTo h A (suc n) =
 abbrev pub listed : List ℕ → ℕ → ℕ
 listed l k = getD l k 0
 
--- The coverings chosen at R levels: those of the first, then those that its low-pass gives.
+-- "Coverings are listed by level": those of the first level, then those that its low-pass gives.
 unfoldable pub covers : ℕ → ℕ → ℕ → Image → List ℕ
 covers zero h w A = []
 covers (suc R) h w A =

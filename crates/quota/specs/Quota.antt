@@ -1,4 +1,4 @@
--- Ranks, Keep and Cut. Assumes nothing.
+-- Ranks, Keep K and Cut by T of document 01, "Cutting". Assumes nothing.
 use mathlib.Core.Bool.{Bool, _&&_, _||_, cond}
 use mathlib.Core.List.{List, map}
 use Prim.Native.Nat.{ℕ, zero, suc, _+_, _*_, _-_, _/_, _^_}
@@ -10,22 +10,22 @@ use Rattle.pyramid.specs.Plane.{Image, band, layout, withLow}
 use Rattle.pyramid.specs.Slices.{imageOf, sliceOf}
 use Rattle.pyramid.specs.Places.{Place, noPlace, tetroletPlaces, at, sumOver}
 
--- The rank of an entry: its absolute value times 2 ^ (R - level).
+-- "rank is |W| times 2^(R-r)".
 abbrev pub rankOf : ℕ → Image → Place → ℕ
 rankOf R P p = natAbs (at P p) * 2 ^ (R - p .level)
 
 abbrev pub ranks : ℕ → ℕ → ℕ → Image → List ℕ
 ranks R h w P = map (rankOf R P) (tetroletPlaces R h w)
 
--- Entry m goes before entry n: by falling rank, then plane order.
+-- "Tetrolet entries not zero are ordered by falling rank, then plane order": entry m goes before entry n.
 abbrev pub before : List ℕ → ℕ → ℕ → Bool
 before q m n = ltb (getD q n 0) (getD q m 0) || (eqb (getD q n 0) (getD q m 0) && ltb m n)
 
--- Keep K on a list of ranks: entry n stays if it is not zero and fewer than K entries go before it.
+-- "the first K stay": entry n stays if it is not zero and fewer than K entries go before it.
 unfoldable pub stays : ℕ → List ℕ → ℕ → Bool
 stays K q n = ltb 0 (getD q n 0) && ltb (Σℕ (length q) (λ m. cond (before q m n) 1 0)) K
 
--- The plane with 0 at each tetrolet entry whose number in plane order does not pass the test.
+-- "the others become 0", "band 0 is never cut": the plane with 0 at each tetrolet entry whose number in plane order does not pass the test.
 unfoldable pub select : ℕ → ℕ → ℕ → (ℕ → Bool) → Image → Image
 select zero h w stay P = P
 select (suc R) h w stay P =
@@ -39,7 +39,7 @@ select (suc R) h w stay P =
 abbrev pub kept : ℕ → ℕ → ℕ → ℕ → Image → Image
 kept R h w K P = let q = ranks R h w P in select R h w (stays K q) P
 
--- What cutting by T leaves: a level-r entry stays if its absolute value is at least T times 2 ^ r.
+-- "a level-r entry stays if |W| is at least T times 2^r": what cutting by T leaves.
 abbrev pub passes : ℕ → Image → Place → Bool
 passes T P p = leb (T * 2 ^ p .level) (natAbs (at P p))
 
@@ -49,7 +49,7 @@ cut R h w T P = select R h w (λ n. passes T P (getD (tetroletPlaces R h w) n no
 abbrev pub isZero : ℤ → Bool
 isZero z = eqb (natAbs z) 0
 
--- How many tetrolet entries of a plane are not zero.
+-- "the number of tetrolet entries left that are not zero".
 abbrev pub entries : ℕ → ℕ → ℕ → Image → ℕ
 entries R h w P = sumOver (tetroletPlaces R h w) (λ p. cond (isZero (at P p)) 0 1)
 
