@@ -22,15 +22,11 @@ use Rattle.pyramid.specs.Ranges.{inRange, InRange}
 use Rattle.pyramid.proofs.Whole.{ranged}
 use Rattle.pyramid.specs.Sides.{isSide, isDepth, isPlane, isCoverings}
 use Rattle.pyramid.specs.Slices.{imageOf, planeOf, coversOf, numeratorsOf, samplesOf}
-use Rattle.pyramid.proofs.Sides.{sized, side-is, side-small, levels-small}
+use Rattle.pyramid.proofs.Sides.{sized, levels-small}
 use Rattle.coder.specs.Entries.{isSample, decomposeRefusal, Decomposed, restoreRefusal, Restored}
 
 pub truth : {b : Bool} → b ≡ true → T b
 truth e = subst T (sym e) tt
-
--- a side that passed is small
-pub small-side : (n : ℕ) → isSide n ≡ true → n ≤ 512
-small-side n e = side-small (side-is n (truth e))
 
 pub area-small : (n : ℕ) → n ≤ 512 → n * n ≤ 512 * 512
 area-small n l = mul-le-mul l l

@@ -5,7 +5,7 @@ use Prim.Native.Nat.{ℕ, _^_, _<_, _≤_}
 use lib.Dec.{T}
 use Rattle.pyramid.specs.Plane.{Fits}
 use Rattle.pyramid.specs.Sides.{isSide, isDepth}
-use Rattle.pyramid.proofs.Sides.{sized, sized-fits, side-small}
+use Rattle.pyramid.proofs.Sides.{side-is, sized, sized-fits, side-small as small}
 
 pub record Passed (n R : ℕ) : Type 0 where
   pub log : ℕ
@@ -16,6 +16,10 @@ pub record Passed (n R : ℕ) : Type 0 where
   pub some-level : 1 ≤ R
   pub fits : Fits R n n
   pub small : n ≤ 512
+
+-- a side that passed is small
+pub side-small : (n : ℕ) → isSide n ≡ true → n ≤ 512
+side-small n e = small (side-is n (subst T (sym e) tt))
 
 pub passed : (n R : ℕ) → isSide n ≡ true → isDepth R n n ≡ true → Passed n R
 passed n R e d =
@@ -28,5 +32,5 @@ passed n R e d =
       levels = z .fewer;
       some-level = z .some;
       fits = sized-fits z;
-      small = side-small (z .tall);
+      small = side-small n e;
     }

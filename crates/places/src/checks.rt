@@ -44,7 +44,7 @@ pub fn is_depth(levels: usize, side: usize) -> bool
 // The number of blocks of all levels.
 pub fn count_blocks(levels: usize, side: usize) -> usize
     requires { ⌜ (side ≤ 512) × (levels ≤ 8) ⌝ }
-    ensures { λ r. ⌜ r ≡ allBlocks levels side side ⌝ }
+    ensures { λ r. ⌜ (r ≡ allBlocks levels side side) × (r ≤ 131072) ⌝ }
 {
     let mut total: usize = 0;
     let mut h = side;
@@ -95,7 +95,7 @@ fn power(r: u32) -> u64
 }
 
 // Whether a value at a level and a band is in its range.
-fn fits_range(levels: u32, k: Walk, v: i64) -> bool
+pub fn fits_range(levels: u32, k: Walk, v: i64) -> bool
     requires { ⌜ (levels ≤ 9) × (1 ≤ k .level) × (k .level ≤ 9) ⌝ }
     ensures { λ r. ⌜ r ≡ fitsRange levels (entryOf k) v ⌝ }
 {

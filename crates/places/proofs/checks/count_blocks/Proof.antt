@@ -40,7 +40,7 @@ returns : tie.Need-returns Inv-loop μ-loop
 returns c =
     let l = c .before .loop in
     let z : l .left ≡ 0 = omega arith in
-    omega (arith, ap (λ (n : ℕ). allBlocks n (l .h) (l .h)) z)
+    (omega (arith, ap (λ (n : ℕ). allBlocks n (l .h) (l .h)) z), omega arith)
 
 pub count-blocks-spec : {M : Type 1} → statement M
 count-blocks-spec =

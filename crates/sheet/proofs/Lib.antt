@@ -1,0 +1,10 @@
+pub mod Answers
+pub mod Each
+pub mod Laws
+pub mod Layouts
+pub mod Lines
+pub mod Pieces
+pub mod Readings
+pub mod Scans
+pub mod Spread
+pub mod Whole

@@ -1,0 +1,9 @@
+pub mod Claims
+pub mod Forms
+pub mod Parts
+pub mod Read
+pub mod Rows
+pub mod Scan
+pub mod Sheet
+pub mod Usage
+pub mod Line

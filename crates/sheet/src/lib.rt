@@ -1,0 +1,103 @@
+// The texts of the store: the tetrolet sheet and the usage list. specs/Forms.antt has their lines of names, specs/Rows.antt what is written of coverings
+// and of a plane and what lines say, specs/Sheet.antt the entries' answers. Both laws, that what is written is read back and that what is read is
+// written again byte for byte, are `SheetLaws` of specs/Claims.antt, proved in proofs/Laws.antt.
+pub mod check;
+pub mod render;
+pub mod scan;
+pub mod tiles;
+
+ghost use Rattle.sheet.specs.Read.{ReadAnswered};
+ghost use Rattle.sheet.specs.Sheet.{WriteAnswered};
+use check::Found;
+use refusals::Counted;
+use refusals::Refusal;
+
+// Writes a tetrolet sheet, and gives its length. Two wrong answers that the contract rules out: refusal 10 for a buffer that is just long enough; and a
+// refusal after the first byte was stored.
+pub fn write(
+    side: usize,
+    levels: usize,
+    plane: &[i64],
+    coverings: &[u8],
+    buffer: &mut [u8],
+) -> Counted
+    ensures { λ r. ⌜ WriteAnswered side levels (now (plane .entry)) (now (coverings .entry)) (now (buffer .entry)) (now (buffer .exit)) r ⌝ }
+{
+    if !places::checks::is_side(side) {
+        return Counted::Refused(Refusal::Side);
+    }
+    if !places::checks::is_depth(levels, side) {
+        return Counted::Refused(Refusal::Depth);
+    }
+    if plane.len() != side * side {
+        return Counted::Refused(Refusal::Frame);
+    }
+    let blocks = places::checks::count_blocks(levels, side);
+    if coverings.len() != blocks {
+        return Counted::Refused(Refusal::Frame);
+    }
+    if !places::checks::all_numbers(coverings) {
+        return Counted::Refused(Refusal::Covering);
+    }
+    let n = side as u32;
+    let r = levels as u32;
+    if !places::checks::in_range(plane, n, r) {
+        return Counted::Refused(Refusal::Coefficient);
+    }
+    let width = render::sheet_width(n, r, plane, coverings);
+    if buffer.len() < width {
+        return Counted::Refused(Refusal::Buffer);
+    }
+    render::put_sheet(buffer, n, r, plane, coverings);
+    Counted::Count(width)
+}
+
+// The answer of the entry read.
+pub enum Reading {
+    Sheet { side: usize, levels: usize },
+    Refused(Refusal),
+}
+
+// Reads a tetrolet sheet into slices as long as its plane and its coverings. Two wrong answers that the contract rules out: refusal 11 for a text that
+// breaks the line rules further on; and a plane that keeps an old value at a place without a line.
+pub fn read(text: &[u8], plane: &mut [i64], coverings: &mut [u8]) -> Reading
+    ensures { λ r. ⌜ ReadAnswered (now (text .entry)) (now (plane .entry)) (now (plane .exit)) (now (coverings .entry)) (now (coverings .exit)) r ⌝ }
+{
+    let Found::At(l) = check::find_parts(text) else {
+        return Reading::Refused(Refusal::Text);
+    };
+    let n = l.side;
+    let r = l.levels;
+    let side = n as usize;
+    let levels = r as usize;
+    if !places::checks::is_side(side) {
+        return Reading::Refused(Refusal::Side);
+    }
+    if !places::checks::is_depth(levels, side) {
+        return Reading::Refused(Refusal::Depth);
+    }
+    if plane.len() != side * side {
+        return Reading::Refused(Refusal::Frame);
+    }
+    let blocks = places::checks::count_blocks(levels, side);
+    if coverings.len() != blocks {
+        return Reading::Refused(Refusal::Frame);
+    }
+    let b = l.blocks;
+    let e = l.entries;
+    if !tiles::in_order(text, b, n, r) {
+        return Reading::Refused(Refusal::Sequence);
+    }
+    if !scan::in_sequence(text, e, n, r) {
+        return Reading::Refused(Refusal::Sequence);
+    }
+    if !tiles::numbered(text, b, blocks) {
+        return Reading::Refused(Refusal::Covering);
+    }
+    if !scan::in_ranges(text, e, n, r) {
+        return Reading::Refused(Refusal::Coefficient);
+    }
+    tiles::store_covers(coverings, text, b);
+    scan::store_values(plane, text, e, n, r);
+    Reading::Sheet { side, levels }
+}

@@ -1,0 +1,9 @@
+pub mod Read
+pub mod Decimal
+pub mod Rows
+pub mod Exact
+pub mod Cursor
+pub mod Signed
+pub mod Line
+pub mod Stamp
+pub mod Many

@@ -1,0 +1,56 @@
+-- Lines that the code reads at a place: a line of two numbers, of four, and of four and a signed value. Assumes nothing.
+use Prim.Native.Nat.{ℕ, _-_}
+use mathlib.Core.List.{List, [], _∷_}
+use lib.IntN.{ℤ, pos, natAbs}
+use lib.ListN.{length, drop, getD}
+use Rattle.text.specs.Text.{Parsed, bad, got, Column, signed, plain, row, rows, any}
+use Rattle.text.specs.declared.lines.LineOfTwo.{LineOfTwo}
+use Rattle.text.specs.declared.lines.LineOfTwo.the-variants.{Of as OfTwo, Bad as NoTwo}
+use Rattle.text.specs.declared.lines.LineOfFour.{LineOfFour}
+use Rattle.text.specs.declared.lines.LineOfFour.the-variants.{Of as OfFour, Bad as NoFour}
+use Rattle.text.specs.declared.lines.LineOfFive.{LineOfFive}
+use Rattle.text.specs.declared.lines.LineOfFive.the-variants.{Of as OfFive, Bad as NoFive}
+
+abbrev pub cellAt : List ℤ → ℕ → ℕ
+cellAt r i = natAbs (getD r i (pos 0))
+
+abbrev pub twoOf : ℕ → Parsed (List ℤ) → LineOfTwo
+twoOf n bad = NoTwo
+twoOf n (got v r) = OfTwo (record { first = cellAt v 0; second = cellAt v 1; next = n - length r })
+
+abbrev pub twoAt : List ℕ → ℕ → LineOfTwo
+twoAt s at = twoOf (length s) (row (plain ∷ plain ∷ []) (drop at s))
+
+abbrev pub fourOf : ℕ → Parsed (List ℤ) → LineOfFour
+fourOf n bad = NoFour
+fourOf n (got v r) = OfFour (record { first = cellAt v 0; second = cellAt v 1; third = cellAt v 2; fourth = cellAt v 3; next = n - length r })
+
+abbrev pub fourAt : List ℕ → ℕ → LineOfFour
+fourAt s at = fourOf (length s) (row (plain ∷ plain ∷ plain ∷ plain ∷ []) (drop at s))
+
+abbrev pub fiveOf : ℕ → Parsed (List ℤ) → LineOfFive
+fiveOf n bad = NoFive
+fiveOf n (got v r) =
+    OfFive (record { first = cellAt v 0; second = cellAt v 1; third = cellAt v 2; fourth = cellAt v 3; value = getD v 4 (pos 0); next = n - length r })
+
+abbrev pub fiveAt : List ℕ → ℕ → LineOfFive
+fiveAt s at = fiveOf (length s) (row (plain ∷ plain ∷ plain ∷ plain ∷ signed ∷ []) (drop at s))
+
+-- the place past as many lines as there are
+abbrev pub pastOf : ℕ → Parsed (List (List ℤ)) → ℕ
+pastOf n bad = n
+pastOf n (got rs r) = n - length r
+
+abbrev pub foursAt : List ℕ → ℕ → ℕ
+foursAt s at = pastOf (length s) (rows any (plain ∷ plain ∷ plain ∷ plain ∷ []) (drop at s))
+
+abbrev pub fivesAt : List ℕ → ℕ → ℕ
+fivesAt s at = pastOf (length s) (rows any (plain ∷ plain ∷ plain ∷ plain ∷ signed ∷ []) (drop at s))
+
+-- as many lines as there are at a place
+abbrev pub linesOf : Parsed (List (List ℤ)) → List (List ℤ)
+linesOf bad = []
+linesOf (got rs r) = rs
+
+unfoldable pub linesAt : List Column → List ℕ → ℕ → List (List ℤ)
+linesAt ks s at = linesOf (rows any ks (drop at s))
