@@ -85,7 +85,7 @@ line-some k v z = ap (λ (b : Bool). cond b [] (fiveText (k .level) (k .band) (k
 
 -- ---- the whole text
 
-two-row : (a b : ℕ) → rowText (pos a ∷ pos b ∷ []) ≡ cellText a 32 ++ cellText b 10
+pub two-row : (a b : ℕ) → rowText (pos a ∷ pos b ∷ []) ≡ cellText a 32 ++ cellText b 10
 unfolding rowText valueText after
 two-row a b = sym (append-snoc (digits a) 32 (cellText b 10))
 

@@ -4,10 +4,12 @@
 pub mod check;
 pub mod render;
 pub mod scan;
+pub mod tally;
 pub mod tiles;
 
 ghost use Rattle.sheet.specs.Read.{ReadAnswered};
 ghost use Rattle.sheet.specs.Sheet.{WriteAnswered};
+ghost use Rattle.sheet.specs.Usage.{UsageAnswered};
 use check::Found;
 use refusals::Counted;
 use refusals::Refusal;
@@ -100,4 +102,25 @@ pub fn read(text: &[u8], plane: &mut [i64], coverings: &mut [u8]) -> Reading
     tiles::store_covers(coverings, text, b);
     scan::store_values(plane, text, e, n, r);
     Reading::Sheet { side, levels }
+}
+
+// Writes the usage list of any coverings, and gives its length. Two wrong answers that the contract rules out: two lines for one covering; and a line
+// with the count 0.
+pub fn usage(coverings: &[u8], buffer: &mut [u8]) -> Counted
+    ensures { λ r. ⌜ UsageAnswered (now (coverings .entry)) (now (buffer .entry)) (now (buffer .exit)) r ⌝ }
+{
+    if 21845 < coverings.len() {
+        return Counted::Refused(Refusal::Frame);
+    }
+    if !places::checks::all_numbers(coverings) {
+        return Counted::Refused(Refusal::Covering);
+    }
+    // The line of names has 12 bytes.
+    let length = 12 + tally::counts_width(coverings);
+    if buffer.len() < length {
+        return Counted::Refused(Refusal::Buffer);
+    }
+    let p = text::write::put_bytes(buffer, 0, b"cover count\n");
+    tally::put_counts(buffer, p, coverings);
+    Counted::Count(length)
 }

@@ -28,12 +28,6 @@ use mir.Val.{toZ, ofZ}
 use borrow.Author.Needs.{needs}
 use Rattle.sheet.proofs.render.put_entries.Statement.{statement}
 use Rattle.sheet.proofs.render.put_entries.Tie as tie
-use Rattle.sheet.proofs.render.put_entries.Reads as reads
-use Rattle.sheet.proofs.render.put_entries.Lts as lts
-use Rattle.places.proofs.checks.index_of.Reads as index-of-reads
-use Rattle.sheet.proofs.render.put_entry.Reads as put-entry-reads
-use Rattle.places.proofs.walk.first_entry.Reads as first-entry-reads
-use Rattle.places.proofs.walk.step.Reads as step-reads
 
 abbrev Inv-loop : tie.InvT-loop
 Inv-loop out₀ at plane side levels k₀ p₀ out k p = Inside side k × (allFit levels (imageOf side plane) k ≡ true) × (length out ≡ length out₀) × (p + length (entriesFrom (imageOf side plane) k) ≡ at + length (entriesText levels side side plane)) × (stamp p (entriesFrom (imageOf side plane) k) out ≡ stamp at (entriesText levels side side plane) out₀)
