@@ -24,40 +24,40 @@ stamp-front l out = let z : 0 + length l ≡ length l = omega arith in ap (λ (n
 
 -- write
 module _ (n R : ℕ) (P : List ℤ) (cs old : List ℕ) where
-  pub no-side : isSide n ≡ false → WriteAnswered n R P cs old old (Refused Side)
+  pub no-side : isSide n ≡ false → WriteAnswered n R P cs old old 1 0
   no-side a = record { number = rw a; count = rw a; slice = rw a }
 
   module _ (a : isSide n ≡ true) where
-    pub no-depth : isDepth R n n ≡ false → WriteAnswered n R P cs old old (Refused Depth)
+    pub no-depth : isDepth R n n ≡ false → WriteAnswered n R P cs old old 2 0
     no-depth b = record { number = rw (a, b); count = rw (a, b); slice = rw (a, b) }
 
     module _ (b : isDepth R n n ≡ true) where
-      pub no-plane : (length P ≡ n * n → ⊥) → WriteAnswered n R P cs old old (Refused Frame)
+      pub no-plane : (length P ≡ n * n → ⊥) → WriteAnswered n R P cs old old 3 0
       no-plane c = let e = ne-eqb (length P) (n * n) c in record { number = rw (a, b, e); count = rw (a, b, e); slice = rw (a, b, e) }
 
       module _ (c : length P ≡ n * n) where
-        pub no-coverings : (length cs ≡ allBlocks R n n → ⊥) → WriteAnswered n R P cs old old (Refused Frame)
+        pub no-coverings : (length cs ≡ allBlocks R n n → ⊥) → WriteAnswered n R P cs old old 3 0
         no-coverings d =
             let e = eq-eqb (length P) (n * n) c in
             let f = ne-eqb (length cs) (allBlocks R n n) d in
             record { number = rw (a, b, e, f); count = rw (a, b, e, f); slice = rw (a, b, e, f) }
 
         module _ (d : length cs ≡ allBlocks R n n) where
-          pub no-number : every isNumber cs ≡ false → WriteAnswered n R P cs old old (Refused Covering)
+          pub no-number : every isNumber cs ≡ false → WriteAnswered n R P cs old old 5 0
           no-number g =
               let e = eq-eqb (length P) (n * n) c in
               let f = eq-eqb (length cs) (allBlocks R n n) d in
               record { number = rw (a, b, e, f, g); count = rw (a, b, e, f, g); slice = rw (a, b, e, f, g) }
 
           module _ (g : every isNumber cs ≡ true) where
-            pub no-range : inRange R n n (imageOf n P) ≡ false → WriteAnswered n R P cs old old (Refused Coefficient)
+            pub no-range : inRange R n n (imageOf n P) ≡ false → WriteAnswered n R P cs old old 6 0
             no-range h =
                 let e = eq-eqb (length P) (n * n) c in
                 let f = eq-eqb (length cs) (allBlocks R n n) d in
                 record { number = rw (a, b, e, f, g, h); count = rw (a, b, e, f, g, h); slice = rw (a, b, e, f, g, h) }
 
             module _ (h : inRange R n n (imageOf n P) ≡ true) where
-              pub no-room : length old < length (sheetText n R P cs) → WriteAnswered n R P cs old old (Refused Buffer)
+              pub no-room : length old < length (sheetText n R P cs) → WriteAnswered n R P cs old old 10 0
               no-room i =
                   let e = eq-eqb (length P) (n * n) c in
                   let f = eq-eqb (length cs) (allBlocks R n n) d in
@@ -65,7 +65,7 @@ module _ (n R : ℕ) (P : List ℤ) (cs old : List ℕ) where
                   record { number = rw (a, b, e, f, g, h, j); count = rw (a, b, e, f, g, h, j); slice = rw (a, b, e, f, g, h, j) }
 
               pub written : (w : ℕ) (new : List ℕ) → length (sheetText n R P cs) ≤ length old → w ≡ length (sheetText n R P cs) → new ≡ stamp 0 (sheetText n R P cs) old
-                  → WriteAnswered n R P cs old new (Count w)
+                  → WriteAnswered n R P cs old new 0 w
               written w new i k l =
                   let e = eq-eqb (length P) (n * n) c in
                   let f = eq-eqb (length cs) (allBlocks R n n) d in

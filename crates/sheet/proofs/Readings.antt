@@ -69,23 +69,23 @@ module _ (t : List ℕ) (P : List ℤ) (cs : List ℕ) where
   abbrev rows : List (List (List ℤ))
   rows = rowsOf t
 
-  pub no-text : isSome (parse sheetForm t) ≡ false → ReadAnswered t P P cs cs (Refused Text)
+  pub no-text : isSome (parse sheetForm t) ≡ false → ReadAnswered t P P cs cs 9 0 0
   no-text x = record { number = rw x; side = rw x; levels = rw x; plane = rw x; coverings = rw x }
 
   module _ (x : isSome (parse sheetForm t) ≡ true) where
-    pub no-side : isSide (sideIn rows) ≡ false → ReadAnswered t P P cs cs (Refused Side)
+    pub no-side : isSide (sideIn rows) ≡ false → ReadAnswered t P P cs cs 1 0 0
     no-side a = record { number = rw (x, a); side = rw (x, a); levels = rw (x, a); plane = rw (x, a); coverings = rw (x, a) }
 
     module _ (a : isSide (sideIn rows) ≡ true) where
-      pub no-depth : isDepth (levelsIn rows) (sideIn rows) (sideIn rows) ≡ false → ReadAnswered t P P cs cs (Refused Depth)
+      pub no-depth : isDepth (levelsIn rows) (sideIn rows) (sideIn rows) ≡ false → ReadAnswered t P P cs cs 2 0 0
       no-depth b = record { number = rw (x, a, b); side = rw (x, a, b); levels = rw (x, a, b); plane = rw (x, a, b); coverings = rw (x, a, b) }
 
       module _ (b : isDepth (levelsIn rows) (sideIn rows) (sideIn rows) ≡ true) where
-        pub no-plane : (length P ≡ sideIn rows * sideIn rows → ⊥) → ReadAnswered t P P cs cs (Refused Frame)
+        pub no-plane : (length P ≡ sideIn rows * sideIn rows → ⊥) → ReadAnswered t P P cs cs 3 0 0
         no-plane c = let e = ne-eqb (length P) (sideIn rows * sideIn rows) c in record { number = rw (x, a, b, e); side = rw (x, a, b, e); levels = rw (x, a, b, e); plane = rw (x, a, b, e); coverings = rw (x, a, b, e) }
 
         module _ (c : length P ≡ sideIn rows * sideIn rows) where
-          pub no-coverings : (length cs ≡ allBlocks (levelsIn rows) (sideIn rows) (sideIn rows) → ⊥) → ReadAnswered t P P cs cs (Refused Frame)
+          pub no-coverings : (length cs ≡ allBlocks (levelsIn rows) (sideIn rows) (sideIn rows) → ⊥) → ReadAnswered t P P cs cs 3 0 0
           no-coverings d =
               let e = eq-eqb (length P) (sideIn rows * sideIn rows) c in
               let f = ne-eqb (length cs) (allBlocks (levelsIn rows) (sideIn rows) (sideIn rows)) d in
@@ -98,19 +98,19 @@ module _ (t : List ℕ) (P : List ℤ) (cs : List ℕ) where
             abbrev f : eqb (length cs) (allBlocks (levelsIn rows) (sideIn rows) (sideIn rows)) ≡ true
             f = eq-eqb (length cs) (allBlocks (levelsIn rows) (sideIn rows) (sideIn rows)) d
 
-            pub no-order : isSome (saidCoverings rows) ≡ false → ReadAnswered t P P cs cs (Refused Sequence)
+            pub no-order : isSome (saidCoverings rows) ≡ false → ReadAnswered t P P cs cs 11 0 0
             no-order g = record { number = rw (x, a, b, e, f, g); side = rw (x, a, b, e, f, g); levels = rw (x, a, b, e, f, g); plane = rw (x, a, b, e, f, g); coverings = rw (x, a, b, e, f, g) }
 
             module _ (g : isSome (saidCoverings rows) ≡ true) where
-              pub no-sequence : isSome (saidValues rows) ≡ false → ReadAnswered t P P cs cs (Refused Sequence)
+              pub no-sequence : isSome (saidValues rows) ≡ false → ReadAnswered t P P cs cs 11 0 0
               no-sequence h = record { number = rw (x, a, b, e, f, g, h); side = rw (x, a, b, e, f, g, h); levels = rw (x, a, b, e, f, g, h); plane = rw (x, a, b, e, f, g, h); coverings = rw (x, a, b, e, f, g, h) }
 
               module _ (h : isSome (saidValues rows) ≡ true) where
-                pub no-number : every isNumber (coveringsIn rows) ≡ false → ReadAnswered t P P cs cs (Refused Covering)
+                pub no-number : every isNumber (coveringsIn rows) ≡ false → ReadAnswered t P P cs cs 5 0 0
                 no-number i = record { number = rw (x, a, b, e, f, g, h, i); side = rw (x, a, b, e, f, g, h, i); levels = rw (x, a, b, e, f, g, h, i); plane = rw (x, a, b, e, f, g, h, i); coverings = rw (x, a, b, e, f, g, h, i) }
 
                 module _ (i : every isNumber (coveringsIn rows) ≡ true) where
-                  pub no-range : inRange (levelsIn rows) (sideIn rows) (sideIn rows) (imageOf (sideIn rows) (planeIn rows)) ≡ false → ReadAnswered t P P cs cs (Refused Coefficient)
+                  pub no-range : inRange (levelsIn rows) (sideIn rows) (sideIn rows) (imageOf (sideIn rows) (planeIn rows)) ≡ false → ReadAnswered t P P cs cs 6 0 0
                   no-range j =
                       record {
                         number = rw (x, a, b, e, f, g, h, i, j);
@@ -121,7 +121,7 @@ module _ (t : List ℕ) (P : List ℤ) (cs : List ℕ) where
                       }
 
                   pub was-read : inRange (levelsIn rows) (sideIn rows) (sideIn rows) (imageOf (sideIn rows) (planeIn rows)) ≡ true → (n k : ℕ) (P′ : List ℤ) (cs′ : List ℕ)
-                      → n ≡ sideIn rows → k ≡ levelsIn rows → P′ ≡ planeIn rows → cs′ ≡ coveringsIn rows → ReadAnswered t P P′ cs cs′ (Sheet n k)
+                      → n ≡ sideIn rows → k ≡ levelsIn rows → P′ ≡ planeIn rows → cs′ ≡ coveringsIn rows → ReadAnswered t P P′ cs cs′ 0 n k
                   was-read j n k P′ cs′ o p q r =
                       record {
                         number = rw (x, a, b, e, f, g, h, i, j);

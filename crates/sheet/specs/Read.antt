@@ -21,11 +21,11 @@ abbrev pub levelsOf : Reading → ℕ
 levelsOf (Sheet n k) = k
 levelsOf (Refused r) = 0
 
--- Document 01: "Reading gives side and levels, and puts 0 at each plane place without a line." P and cs are what the slices hold before the call, P′ and
+-- Document 01: "Reading gives side and levels, and puts 0 at each plane place without a line." n is the number that the call is answered with, s and k the side and the levels that it gives; P and cs are what the slices hold before the call, P′ and
 -- cs′ after it.
-pub record ReadAnswered (t : List ℕ) (P P′ : List ℤ) (cs cs′ : List ℕ) (answer : Reading) : Type 0 where
-  pub number : readingOf answer ≡ readRefusal t P cs
-  pub side : sideOf answer ≡ afterCall (readRefusal t P cs) (sideIn (rowsOf t)) 0
-  pub levels : levelsOf answer ≡ afterCall (readRefusal t P cs) (levelsIn (rowsOf t)) 0
+pub record ReadAnswered (t : List ℕ) (P P′ : List ℤ) (cs cs′ : List ℕ) (n s k : ℕ) : Type 0 where
+  pub number : n ≡ readRefusal t P cs
+  pub side : s ≡ afterCall (readRefusal t P cs) (sideIn (rowsOf t)) 0
+  pub levels : k ≡ afterCall (readRefusal t P cs) (levelsIn (rowsOf t)) 0
   pub plane : P′ ≡ afterCall (readRefusal t P cs) (planeIn (rowsOf t)) P
   pub coverings : cs′ ≡ afterCall (readRefusal t P cs) (coveringsIn (rowsOf t)) cs

@@ -9,8 +9,7 @@ use lib.Dec.{eqb, ltb}
 use lib.IntN.{ℤ, pos}
 use lib.ListN.{length, getD, drop, replicate}
 use Rattle.integers.specs.Lists.{every}
-use Rattle.refusals.specs.Refusal.{refuseIf, countedOf, countOf, afterCall}
-use Rattle.refusals.specs.declared.Counted.{Counted}
+use Rattle.refusals.specs.Refusal.{refuseIf, afterCall}
 use Rattle.coverings.specs.Entry.{isNumber}
 use Rattle.pyramid.specs.Sides.{isSide, isDepth, isPlane, isCoverings}
 use Rattle.pyramid.specs.Slices.{imageOf}
@@ -64,10 +63,10 @@ writeRefusal side levels plane coverings buffer =
     (refuseIf (not (inRange levels side side (imageOf side plane))) 6
     (refuseIf (ltb (length buffer) (length (sheetText side levels plane coverings))) 10 0)))))
 
--- Document 01: "A longer tray keeps its further bytes; the length written is given." old is what the buffer holds before the call, new after it.
-pub record WriteAnswered (side levels : ℕ) (plane : List ℤ) (coverings old new : List ℕ) (answer : Counted) : Type 0 where
-  pub number : countedOf answer ≡ writeRefusal side levels plane coverings old
-  pub count : countOf answer ≡ afterCall (writeRefusal side levels plane coverings old) (length (sheetText side levels plane coverings)) 0
+-- Document 01: "A longer tray keeps its further bytes; the length written is given." n is the number that the call is answered with, len the length that it gives. old is what the buffer holds before the call, new after it.
+pub record WriteAnswered (side levels : ℕ) (plane : List ℤ) (coverings old new : List ℕ) (n len : ℕ) : Type 0 where
+  pub number : n ≡ writeRefusal side levels plane coverings old
+  pub count : len ≡ afterCall (writeRefusal side levels plane coverings old) (length (sheetText side levels plane coverings)) 0
   pub slice : new ≡ afterCall (writeRefusal side levels plane coverings old) (sheetText side levels plane coverings ++ drop (length (sheetText side levels plane coverings)) old) old
 
 -- ---- read

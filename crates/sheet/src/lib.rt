@@ -7,7 +7,8 @@ pub mod scan;
 pub mod tally;
 pub mod tiles;
 
-ghost use Rattle.sheet.specs.Read.{ReadAnswered};
+ghost use Rattle.refusals.specs.Refusal.{countedOf, countOf};
+ghost use Rattle.sheet.specs.Read.{readingOf, sideOf, levelsOf, ReadAnswered};
 ghost use Rattle.sheet.specs.Sheet.{WriteAnswered};
 ghost use Rattle.sheet.specs.Usage.{UsageAnswered};
 use check::Found;
@@ -23,7 +24,7 @@ pub fn write(
     coverings: &[u8],
     buffer: &mut [u8],
 ) -> Counted
-    ensures { λ r. ⌜ WriteAnswered side levels (now (plane .entry)) (now (coverings .entry)) (now (buffer .entry)) (now (buffer .exit)) r ⌝ }
+    ensures { λ r. ⌜ WriteAnswered side levels (now (plane .entry)) (now (coverings .entry)) (now (buffer .entry)) (now (buffer .exit)) (countedOf r) (countOf r) ⌝ }
 {
     if !places::checks::is_side(side) {
         return Counted::Refused(Refusal::Side);
@@ -63,7 +64,7 @@ pub enum Reading {
 // Reads a tetrolet sheet into slices as long as its plane and its coverings. Two wrong answers that the contract rules out: refusal 11 for a text that
 // breaks the line rules further on; and a plane that keeps an old value at a place without a line.
 pub fn read(text: &[u8], plane: &mut [i64], coverings: &mut [u8]) -> Reading
-    ensures { λ r. ⌜ ReadAnswered (now (text .entry)) (now (plane .entry)) (now (plane .exit)) (now (coverings .entry)) (now (coverings .exit)) r ⌝ }
+    ensures { λ r. ⌜ ReadAnswered (now (text .entry)) (now (plane .entry)) (now (plane .exit)) (now (coverings .entry)) (now (coverings .exit)) (readingOf r) (sideOf r) (levelsOf r) ⌝ }
 {
     let Found::At(l) = check::find_parts(text) else {
         return Reading::Refused(Refusal::Text);
@@ -107,7 +108,7 @@ pub fn read(text: &[u8], plane: &mut [i64], coverings: &mut [u8]) -> Reading
 // Writes the usage list of any coverings, and gives its length. Two wrong answers that the contract rules out: two lines for one covering; and a line
 // with the count 0.
 pub fn usage(coverings: &[u8], buffer: &mut [u8]) -> Counted
-    ensures { λ r. ⌜ UsageAnswered (now (coverings .entry)) (now (buffer .entry)) (now (buffer .exit)) r ⌝ }
+    ensures { λ r. ⌜ UsageAnswered (now (coverings .entry)) (now (buffer .entry)) (now (buffer .exit)) (countedOf r) (countOf r) ⌝ }
 {
     if 21845 < coverings.len() {
         return Counted::Refused(Refusal::Frame);
