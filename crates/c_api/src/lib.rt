@@ -1,7 +1,15 @@
 // The entries for callers in C, C++ and Rust: numbers and slices only, each answer as its refusal number, 0 where the call is accepted. A slice passes as a
 // pointer and a count of its elements. The contracts are those of the entries below; include/tetrolet.h has the declarations.
+ghost use mathlib.Core.Path.{_≡_};
+ghost use Rattle.refusals.specs.Refusal.{afterCall};
+ghost use Rattle.sheet.specs.Sheet.{WriteAnswered};
+ghost use Rattle.sheet.specs.Read.{ReadAnswered};
+ghost use Rattle.sheet.specs.Usage.{UsageAnswered};
+ghost use Rattle.c_api.specs.Told.{Told};
 ghost use Rattle.coverings.specs.Entry.{WordAnswered};
 ghost use Rattle.coder.specs.Entries.{Decomposed, Restored};
+use refusals::Counted;
+use sheet::Reading;
 
 // The word of a covering.
 #[no_mangle]
@@ -38,4 +46,63 @@ pub extern "C" fn tetrolet_restore(
     ensures { λ n. ⌜ Restored side levels (now (plane .entry)) (now (coverings .entry)) (now (numerators .entry)) (now (numerators .exit)) (now (samples .entry)) (now (samples .exit)) (now (scratch .entry)) (now (scratch .exit)) n ⌝ }
 {
     refusals::code(coder::restore(side, levels, plane, coverings, numerators, samples, scratch))
+}
+
+// Writes a tetrolet sheet; its length goes to `length`, which a refused call leaves as it was.
+#[no_mangle]
+pub extern "C" fn tetrolet_write(
+    side: usize,
+    levels: usize,
+    plane: &[i64],
+    coverings: &[u8],
+    buffer: &mut [u8],
+    length: &mut usize,
+) -> u32
+    ensures { λ n. ⌜ WriteAnswered side levels (now (plane .entry)) (now (coverings .entry)) (now (buffer .entry)) (now (buffer .exit)) n (afterCall n (now (length .exit)) 0) × Told n (now (length .entry)) (now (length .exit)) ⌝ }
+{
+    let answer = sheet::write(side, levels, plane, coverings, buffer);
+    match answer {
+        Counted::Count(k) => {
+            *length = k;
+            0
+        }
+        Counted::Refused(r) => refusals::number(r) as u32,
+    }
+}
+
+// Writes a usage list; its length goes to `length`, which a refused call leaves as it was.
+#[no_mangle]
+pub extern "C" fn tetrolet_usage(coverings: &[u8], buffer: &mut [u8], length: &mut usize) -> u32
+    ensures { λ n. ⌜ UsageAnswered (now (coverings .entry)) (now (buffer .entry)) (now (buffer .exit)) n (afterCall n (now (length .exit)) 0) × Told n (now (length .entry)) (now (length .exit)) ⌝ }
+{
+    let answer = sheet::usage(coverings, buffer);
+    match answer {
+        Counted::Count(k) => {
+            *length = k;
+            0
+        }
+        Counted::Refused(r) => refusals::number(r) as u32,
+    }
+}
+
+// Reads a tetrolet sheet; its side and its levels go to `side` and `levels`, which a refused call leaves as they were.
+#[no_mangle]
+pub extern "C" fn tetrolet_read(
+    text: &[u8],
+    plane: &mut [i64],
+    coverings: &mut [u8],
+    side: &mut usize,
+    levels: &mut usize,
+) -> u32
+    ensures { λ n. ⌜ ReadAnswered (now (text .entry)) (now (plane .entry)) (now (plane .exit)) (now (coverings .entry)) (now (coverings .exit)) n (afterCall n (now (side .exit)) 0) (afterCall n (now (levels .exit)) 0) × Told n (now (side .entry)) (now (side .exit)) × Told n (now (levels .entry)) (now (levels .exit)) ⌝ }
+{
+    let answer = sheet::read(text, plane, coverings);
+    match answer {
+        Reading::Sheet { side: n, levels: k } => {
+            *side = n;
+            *levels = k;
+            0
+        }
+        Reading::Refused(r) => refusals::number(r) as u32,
+    }
 }
