@@ -30,7 +30,7 @@ module _ (side levels : ℕ) (plane : List ℤ) where
 
   module _ (quota : ℕ) where
     abbrev Refuses : Refusal → Type 0
-    Refuses r = Kept side levels plane plane quota (Refused r)
+    Refuses r = Kept side levels plane plane quota (numberOf r) 0
 
     refuses : (r : Refusal) → numberOf r ≡ keepRefusal side levels plane quota → Refuses r
     refuses r e = record { number = e; planes = unchanged r _ plane; counts = unchanged r _ 0 }
@@ -52,7 +52,7 @@ module _ (side levels : ℕ) (plane : List ℤ) where
 
     pub keeps : Ready side levels plane → quota ≤ quotaLimit side levels → (plane′ : List ℤ) (t over count : ℕ)
         → Limit (ranks levels side side (imageOf side plane)) quota t → over ≡ above (ranks levels side side (imageOf side plane)) t
-        → Sifted levels side t (quota - over) plane plane′ count → Kept side levels plane plane′ quota (Count count)
+        → Sifted levels side t (quota - over) plane plane′ count → Kept side levels plane plane′ quota 0 count
     keeps r l plane′ t over count h e s =
         let w = s .planes ∙ kept-is levels side (passed side levels (r .side-is) (r .depth-is) .fits) plane quota t over h e in
         record {
@@ -63,7 +63,7 @@ module _ (side levels : ℕ) (plane : List ℤ) where
 
   module _ (limit : ℕ) where
     abbrev Rejects : Refusal → Type 0
-    Rejects r = Cut side levels plane plane limit (Refused r)
+    Rejects r = Cut side levels plane plane limit (numberOf r) 0
 
     rejects : (r : Refusal) → numberOf r ≡ cutRefusal side levels plane limit → Rejects r
     rejects r e = record { number = e; planes = unchanged r _ plane; counts = unchanged r _ 0 }
@@ -84,7 +84,7 @@ module _ (side levels : ℕ) (plane : List ℤ) where
     bad-threshold r l = rejects Threshold (simp (r .side-is, r .depth-is, eq-eqb (length plane) (side * side) (r .long), r .range, true-at 1000000 limit l))
 
     pub cuts : Ready side levels plane → limit ≤ 1000000 → (plane′ : List ℤ) (t left count : ℕ) → t ≡ limit * 2 ^ levels → left ≡ side * side
-        → Sifted levels side t left plane plane′ count → Cut side levels plane plane′ limit (Count count)
+        → Sifted levels side t left plane plane′ count → Cut side levels plane plane′ limit 0 count
     cuts r l plane′ t left count e g s =
         let w = s .planes ∙ cut-is levels side (passed side levels (r .side-is) (r .depth-is) .fits) plane limit t left e g in
         record {

@@ -5,8 +5,7 @@ use mathlib.Core.List.{List}
 use Prim.Native.Nat.{ℕ, _*_, _-_, _/_, _^_}
 use lib.Dec.{ltb}
 use lib.IntN.{ℤ}
-use Rattle.refusals.specs.Refusal.{refuseIf, countedOf, countOf, afterCall}
-use Rattle.refusals.specs.declared.Counted.{Counted}
+use Rattle.refusals.specs.Refusal.{refuseIf, afterCall}
 use Rattle.pyramid.specs.Sides.{isSide, isDepth, isPlane}
 use Rattle.pyramid.specs.Ranges.{inRange}
 use Rattle.pyramid.specs.Slices.{imageOf}
@@ -26,11 +25,11 @@ keepRefusal side levels plane quota =
     (refuseIf (ltb (quotaLimit side levels) quota) 7
     0))))
 
--- plane′ is what the plane holds after the call. "Both give the number of tetrolet entries left that are not zero".
-pub record Kept (side levels : ℕ) (plane plane′ : List ℤ) (quota : ℕ) (answer : Counted) : Type 0 where
-  pub number : countedOf answer ≡ keepRefusal side levels plane quota
-  pub planes : plane′ ≡ afterCall (countedOf answer) (keptOf levels side side quota plane) plane
-  pub counts : countOf answer ≡ afterCall (countedOf answer) (entriesOf levels side side (keptOf levels side side quota plane)) 0
+-- n is the number that the call is answered with, left the count that it gives; plane′ is what the plane holds after the call. "Both give the number of tetrolet entries left that are not zero".
+pub record Kept (side levels : ℕ) (plane plane′ : List ℤ) (quota n left : ℕ) : Type 0 where
+  pub number : n ≡ keepRefusal side levels plane quota
+  pub planes : plane′ ≡ afterCall n (keptOf levels side side quota plane) plane
+  pub counts : left ≡ afterCall n (entriesOf levels side side (keptOf levels side side quota plane)) 0
 
 -- Document 01: "cut 1 2 3 6 8", and refusal 8: "T over 1,000,000".
 abbrev pub cutRefusal : ℕ → ℕ → List ℤ → ℕ → ℕ
@@ -42,7 +41,7 @@ cutRefusal side levels plane limit =
     (refuseIf (ltb 1000000 limit) 8
     0))))
 
-pub record Cut (side levels : ℕ) (plane plane′ : List ℤ) (limit : ℕ) (answer : Counted) : Type 0 where
-  pub number : countedOf answer ≡ cutRefusal side levels plane limit
-  pub planes : plane′ ≡ afterCall (countedOf answer) (cutOf levels side side limit plane) plane
-  pub counts : countOf answer ≡ afterCall (countedOf answer) (entriesOf levels side side (cutOf levels side side limit plane)) 0
+pub record Cut (side levels : ℕ) (plane plane′ : List ℤ) (limit n left : ℕ) : Type 0 where
+  pub number : n ≡ cutRefusal side levels plane limit
+  pub planes : plane′ ≡ afterCall n (cutOf levels side side limit plane) plane
+  pub counts : left ≡ afterCall n (entriesOf levels side side (cutOf levels side side limit plane)) 0

@@ -3,6 +3,7 @@
 // goes by value from entry to entry; keep first finds the rank at which entries begin to go. What they answer, and what they leave in the
 // plane, is in specs/Entries.antt.
 ghost use mathlib.Core.Path.{_≡_};
+ghost use Rattle.refusals.specs.Refusal.{countedOf, countOf};
 ghost use Rattle.keeping.specs.Entries.{Kept, Cut};
 use refusals::Counted;
 use refusals::Refusal;
@@ -14,7 +15,7 @@ pub mod tally;
 // Keeps the first `quota` tetrolet entries not zero by falling rank, then plane order; the others become 0. Document 01: "keep 1 2 3 6 7".
 // Two wrong answers that the contract rules out: a plane with one entry more; of two entries of one rank, the later one kept and the earlier one gone.
 pub fn keep(side: usize, levels: usize, plane: &mut [i64], quota: u64) -> Counted
-    ensures { λ r. ⌜ Kept side levels (now (plane .entry)) (now (plane .exit)) quota r ⌝ }
+    ensures { λ r. ⌜ Kept side levels (now (plane .entry)) (now (plane .exit)) quota (countedOf r) (countOf r) ⌝ }
 {
     if !places::checks::is_side(side) {
         return Counted::Refused(Refusal::Side);
@@ -42,7 +43,7 @@ pub fn keep(side: usize, levels: usize, plane: &mut [i64], quota: u64) -> Counte
 // Cuts by a threshold: an entry of level r stays if its absolute value is at least `limit` times 2^r. Document 01: "cut 1 2 3 6 8".
 // Two wrong answers that the contract rules out: an entry equal to its threshold gone; a low-pass entry gone.
 pub fn threshold(side: usize, levels: usize, plane: &mut [i64], limit: u64) -> Counted
-    ensures { λ r. ⌜ Cut side levels (now (plane .entry)) (now (plane .exit)) limit r ⌝ }
+    ensures { λ r. ⌜ Cut side levels (now (plane .entry)) (now (plane .exit)) limit (countedOf r) (countOf r) ⌝ }
 {
     if !places::checks::is_side(side) {
         return Counted::Refused(Refusal::Side);
