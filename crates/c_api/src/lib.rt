@@ -5,6 +5,7 @@ ghost use Rattle.refusals.specs.Refusal.{afterCall};
 ghost use Rattle.sheet.specs.Sheet.{WriteAnswered};
 ghost use Rattle.sheet.specs.Read.{ReadAnswered};
 ghost use Rattle.sheet.specs.Usage.{UsageAnswered};
+ghost use Rattle.keeping.specs.Entries.{Kept, Cut};
 ghost use Rattle.c_api.specs.Told.{Told};
 ghost use Rattle.coverings.specs.Entry.{WordAnswered};
 ghost use Rattle.coder.specs.Entries.{Decomposed, Restored};
@@ -104,5 +105,47 @@ pub extern "C" fn tetrolet_read(
             0
         }
         Reading::Refused(r) => refusals::number(r) as u32,
+    }
+}
+
+// Keeps the largest K; the number of tetrolet entries not zero that are left goes to `left`, which a refused call leaves as it was.
+#[no_mangle]
+pub extern "C" fn tetrolet_keep(
+    side: usize,
+    levels: usize,
+    plane: &mut [i64],
+    quota: u64,
+    left: &mut usize,
+) -> u32
+    ensures { λ n. ⌜ Kept side levels (now (plane .entry)) (now (plane .exit)) quota n (afterCall n (now (left .exit)) 0) × Told n (now (left .entry)) (now (left .exit)) ⌝ }
+{
+    let answer = keeping::keep(side, levels, plane, quota);
+    match answer {
+        Counted::Count(k) => {
+            *left = k;
+            0
+        }
+        Counted::Refused(r) => refusals::number(r) as u32,
+    }
+}
+
+// Cuts by a threshold; the number of tetrolet entries not zero that are left goes to `left`, which a refused call leaves as it was.
+#[no_mangle]
+pub extern "C" fn tetrolet_threshold(
+    side: usize,
+    levels: usize,
+    plane: &mut [i64],
+    limit: u64,
+    left: &mut usize,
+) -> u32
+    ensures { λ n. ⌜ Cut side levels (now (plane .entry)) (now (plane .exit)) limit n (afterCall n (now (left .exit)) 0) × Told n (now (left .entry)) (now (left .exit)) ⌝ }
+{
+    let answer = keeping::threshold(side, levels, plane, limit);
+    match answer {
+        Counted::Count(k) => {
+            *left = k;
+            0
+        }
+        Counted::Refused(r) => refusals::number(r) as u32,
     }
 }

@@ -1,0 +1,47 @@
+-- `c_api::tetrolet_keep` meets its contract: that of the entry below, with its values told through references. Assumes nothing.
+use Rattle.keeping.specs.Entries.{Kept}
+use Rattle.c_api.proofs.Told.{counted, uncounted}
+use borrow.Author.Needs.{needs}
+use Rattle.c_api.proofs.tetrolet_keep.Statement.{statement}
+use Rattle.c_api.proofs.tetrolet_keep.Tie as tie
+
+keep-requires : tie.Need-keep-requires
+keep-requires c κs = search needs
+
+enum-known-answer : tie.Need-enum-known-answer
+enum-known-answer c = search needs
+
+enum-known-answer-2 : tie.Need-enum-known-answer-2
+enum-known-answer-2 c = search needs
+
+number-requires : tie.Need-number-requires
+number-requires c κs = search needs
+
+cast-result : tie.Need-cast-result
+cast-result c = search needs
+
+same-length : tie.Need-same-length
+same-length c = search needs
+
+returns : tie.Need-returns
+returns c = counted (Kept _ _ _ _ _) _ (c .before .before .before .before .keep .ensures) _ (c .before .answer .given .1)
+
+same-length-2 : tie.Need-same-length-2
+same-length-2 c = search needs
+
+returns-2 : tie.Need-returns-2
+returns-2 c = uncounted (Kept _ _ _ _ _) _ (c .before .before .before .before .before .keep .ensures) _ _ _ (c .before .before .answer2 .given .1) (c .number .ensures)
+
+pub tetrolet-keep-spec : {M : Type 1} → statement M
+tetrolet-keep-spec =
+    tie.close
+    (tie.spec
+    keep-requires
+    enum-known-answer
+    enum-known-answer-2
+    number-requires
+    cast-result
+    same-length
+    returns
+    same-length-2
+    returns-2)
