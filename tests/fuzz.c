@@ -280,7 +280,14 @@ static void damage(void)
     if (text_len == 0)
         return;
     size_t at = below(text_len);
-    switch (below(8)) {
+    uint64_t kind = below(10);
+    if (kind >= 8) { /* a number of the second line, or the last number of a line in the first half */
+        at = kind == 8 ? line_end(0) + below(4) : line_end(below(text_len / 2 + 1)) - 1;
+        if (at >= text_len)
+            return;
+        kind = 3;
+    }
+    switch (kind) {
     case 0:
         text[at] = (uint8_t)bytes[below(sizeof bytes - 1)];
         break;
