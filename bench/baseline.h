@@ -1,0 +1,35 @@
+/* The same entries in plain C, for comparison. Arguments, answers and refusals are those of include/tetrolet.h. */
+#ifndef BASELINE_H
+#define BASELINE_H
+
+#include <stddef.h>
+#include <stdint.h>
+
+/* How base_decompose finds the cost of a covering. */
+enum { BASE_STRAIGHT, /* all twelve W of each of the 117 coverings */
+       BASE_SHARED }; /* the 89 placements once, four added for each covering */
+
+/* How base_write writes numbers. */
+enum { BASE_DIGITS, BASE_PRINTF };
+
+/* Makes the tables by search. Call it once, before all else. */
+void base_init(void);
+
+uint32_t base_word(uint8_t covering, uint8_t *word, size_t word_len);
+uint32_t base_decompose(int form, size_t side, size_t levels, const uint16_t *samples, size_t samples_len, int64_t *plane, size_t plane_len,
+                        uint8_t *coverings, size_t coverings_len, int64_t *scratch, size_t scratch_len);
+uint32_t base_restore(size_t side, size_t levels, const int64_t *plane, size_t plane_len, const uint8_t *coverings, size_t coverings_len,
+                      int64_t *numerators, size_t numerators_len, uint16_t *samples, size_t samples_len, int64_t *scratch, size_t scratch_len);
+uint32_t base_keep(size_t side, size_t levels, int64_t *plane, size_t plane_len, uint64_t quota, size_t *left);
+uint32_t base_threshold(size_t side, size_t levels, int64_t *plane, size_t plane_len, uint64_t threshold, size_t *left);
+uint32_t base_write(int form, size_t side, size_t levels, const int64_t *plane, size_t plane_len, const uint8_t *coverings, size_t coverings_len,
+                    uint8_t *buffer, size_t buffer_len, size_t *length);
+uint32_t base_read(const uint8_t *text, size_t text_len, int64_t *plane, size_t plane_len, uint8_t *coverings, size_t coverings_len,
+                   size_t *side, size_t *levels);
+uint32_t base_usage(const uint8_t *coverings, size_t coverings_len, uint8_t *buffer, size_t buffer_len, size_t *length);
+uint32_t base_cutter(const uint8_t *text, size_t text_len, uint8_t *out, size_t out_len, size_t *length);
+
+/* Cuts as base_keep does, but ranked by |W| alone. For the picture that shows what this loses. */
+uint32_t base_keep_raw(size_t side, size_t levels, int64_t *plane, size_t plane_len, uint64_t quota, size_t *left);
+
+#endif

@@ -1,0 +1,256 @@
+/* Checks that the library and the plain C of baseline.c agree, then times both. Prints the best of several runs of each
+   entry, the ratio, how cost grows with the side, and the peak resident size. */
+#define _GNU_SOURCE
+#include "baseline.h"
+#include "weak.h"
+
+#include <stdio.h>
+#include <stdlib.h>
+#include <string.h>
+#include <sys/wait.h>
+#include <time.h>
+#include <unistd.h>
+
+#define RUNS 21
+
+static uint64_t seed = 88172645463325252u;
+
+static uint64_t next(void)
+{
+    seed ^= seed << 13;
+    seed ^= seed >> 7;
+    seed ^= seed << 17;
+    return seed;
+}
+
+static double now(void)
+{
+    struct timespec t;
+    clock_gettime(CLOCK_MONOTONIC, &t);
+    return (double)t.tv_sec + (double)t.tv_nsec * 1e-9;
+}
+
+static uint16_t samples[2][TETROLET_MAX_AREA], image[TETROLET_MAX_AREA];
+static int64_t plane[2][TETROLET_MAX_AREA], numerators[2][TETROLET_MAX_AREA], scratch[2][TETROLET_MAX_AREA];
+static uint8_t coverings[2][TETROLET_MAX_BLOCKS];
+static uint8_t buffer[2][TETROLET_MAX_SHEET];
+
+/* A random image: noise, noise over a slope, or a few flat values, so that ties occur. */
+static void make_image(size_t side, int kind)
+{
+    for (size_t x = 0; x < side; x++)
+        for (size_t y = 0; y < side; y++) {
+            size_t i = x * side + y;
+            if (kind == 0)
+                image[i] = (uint16_t)(next() % 4096);
+            else if (kind == 1)
+                image[i] = (uint16_t)(1000 + x * 1500 / side + y * 1000 / side + next() % 96);
+            else
+                image[i] = (uint16_t)(next() % 3 * 7);
+        }
+}
+
+static void differ(const char *what, size_t side, size_t levels)
+{
+    printf("%s differ at side %zu with %zu levels\n", what, side, levels);
+    exit(1);
+}
+
+static void check(int good, const char *what, size_t side, size_t levels)
+{
+    if (!good)
+        differ(what, side, levels);
+}
+
+/* Whether both give the same, through all entries that are there. */
+static void agree(size_t side, size_t levels, int kind)
+{
+    size_t area = side * side, blocks = tetrolet_blocks(side, levels), bytes = area * sizeof(int64_t);
+    make_image(side, kind);
+    for (int form = 0; form < 2; form++) {
+        uint32_t a = tetrolet_decompose(side, levels, image, area, plane[0], area, coverings[0], blocks, scratch[0], area);
+        uint32_t b = base_decompose(form, side, levels, image, area, plane[1], area, coverings[1], blocks, scratch[1], area);
+        check(a == 0 && b == 0 && !memcmp(plane[0], plane[1], bytes) && !memcmp(coverings[0], coverings[1], blocks)
+                  && !memcmp(scratch[0], scratch[1], bytes), "decompositions", side, levels);
+    }
+    if (tetrolet_keep) {
+        size_t left[2] = { 0, 0 };
+        uint64_t quota = next() % (area - (area >> 2 * levels) + 1);
+        uint32_t a = tetrolet_keep(side, levels, plane[0], area, quota, left), b = base_keep(side, levels, plane[1], area, quota, left + 1);
+        check(a == 0 && b == 0 && left[0] == left[1] && !memcmp(plane[0], plane[1], bytes), "kept planes", side, levels);
+    }
+    if (tetrolet_threshold) {
+        size_t left[2] = { 0, 0 };
+        uint64_t t = next() % 64;
+        uint32_t a = tetrolet_threshold(side, levels, plane[0], area, t, left), b = base_threshold(side, levels, plane[1], area, t, left + 1);
+        check(a == 0 && b == 0 && left[0] == left[1] && !memcmp(plane[0], plane[1], bytes), "cut planes", side, levels);
+    }
+    if (tetrolet_write) {
+        size_t length[2] = { 0, 0 };
+        uint32_t a = tetrolet_write(side, levels, plane[0], area, coverings[0], blocks, buffer[0], TETROLET_MAX_SHEET, length);
+        uint32_t b = base_write(BASE_DIGITS, side, levels, plane[0], area, coverings[0], blocks, buffer[1], TETROLET_MAX_SHEET, length + 1);
+        check(a == 0 && b == 0 && length[0] == length[1] && !memcmp(buffer[0], buffer[1], length[0]), "sheets", side, levels);
+        b = base_write(BASE_PRINTF, side, levels, plane[0], area, coverings[0], blocks, buffer[1], TETROLET_MAX_SHEET, length + 1);
+        check(b == 0 && length[0] == length[1] && !memcmp(buffer[0], buffer[1], length[0]), "printed sheets", side, levels);
+        if (tetrolet_read) {
+            size_t s[2] = { 0, 0 }, l[2] = { 0, 0 };
+            a = tetrolet_read(buffer[0], length[0], numerators[0], area, coverings[0], blocks, s, l);
+            b = base_read(buffer[0], length[0], numerators[1], area, coverings[1], blocks, s + 1, l + 1);
+            check(a == 0 && b == 0 && s[0] == side && l[0] == levels && s[1] == side && l[1] == levels && !memcmp(plane[0], numerators[0], bytes)
+                      && !memcmp(plane[0], numerators[1], bytes) && !memcmp(coverings[0], coverings[1], blocks), "sheets read", side, levels);
+        }
+    }
+    uint32_t a = tetrolet_restore(side, levels, plane[0], area, coverings[0], blocks, numerators[0], area, samples[0], area, scratch[0], area);
+    uint32_t b = base_restore(side, levels, plane[0], area, coverings[0], blocks, numerators[1], area, samples[1], area, scratch[1], area);
+    check(a == 0 && b == 0 && !memcmp(numerators[0], numerators[1], bytes) && !memcmp(samples[0], samples[1], area * sizeof(uint16_t))
+              && !memcmp(scratch[0], scratch[1], bytes), "restorations", side, levels);
+}
+
+/* Takes the time of one call, in milliseconds, where it is the best so far. */
+#define TIME(best, call)                           \
+    do {                                           \
+        double start_ = now();                     \
+        if ((call) != 0)                           \
+            abort();                               \
+        double took_ = (now() - start_) * 1e3;     \
+        if ((best) == 0 || took_ < (best))         \
+            (best) = took_;                        \
+    } while (0)
+
+struct times {
+    double decompose, straight, shared, restore, base_restore, keep, base_keep, write, digits, printed, read, base_read;
+};
+
+/* The best of several rounds. Each round has one call of each entry, so that a busy machine hits all alike. */
+static struct times measure(size_t side, size_t levels)
+{
+    struct times t = { 0 };
+    size_t area = side * side, blocks = tetrolet_blocks(side, levels), bytes = area * sizeof(int64_t), left, length, s, l;
+    make_image(side, 1);
+    for (int run = 0; run < RUNS; run++) {
+        int64_t *p = plane[0], *q = plane[1], *n = numerators[0], *w = scratch[0];
+        uint8_t *c = coverings[0], *d = coverings[1], *text = buffer[0];
+        TIME(t.straight, base_decompose(BASE_STRAIGHT, side, levels, image, area, p, area, c, blocks, w, area));
+        TIME(t.shared, base_decompose(BASE_SHARED, side, levels, image, area, p, area, c, blocks, w, area));
+        TIME(t.decompose, tetrolet_decompose(side, levels, image, area, p, area, c, blocks, w, area));
+        TIME(t.base_restore, base_restore(side, levels, p, area, c, blocks, n, area, samples[0], area, w, area));
+        TIME(t.restore, tetrolet_restore(side, levels, p, area, c, blocks, n, area, samples[0], area, w, area));
+        memcpy(q, p, bytes);
+        TIME(t.base_keep, base_keep(side, levels, q, area, area / 10, &left));
+        memcpy(q, p, bytes);
+        if (tetrolet_keep)
+            TIME(t.keep, tetrolet_keep(side, levels, q, area, area / 10, &left));
+        TIME(t.digits, base_write(BASE_DIGITS, side, levels, p, area, c, blocks, text, TETROLET_MAX_SHEET, &length));
+        TIME(t.printed, base_write(BASE_PRINTF, side, levels, p, area, c, blocks, text, TETROLET_MAX_SHEET, &length));
+        if (tetrolet_write)
+            TIME(t.write, tetrolet_write(side, levels, p, area, c, blocks, text, TETROLET_MAX_SHEET, &length));
+        TIME(t.base_read, base_read(text, length, q, area, d, blocks, &s, &l));
+        if (tetrolet_read)
+            TIME(t.read, tetrolet_read(text, length, q, area, d, blocks, &s, &l));
+    }
+    return t;
+}
+
+static void line(const char *name, double ours, const char *form, double theirs, double bar)
+{
+    if (ours == 0)
+        printf("%-10s %9s   %-9s %9.3f   not exported yet\n", name, "", form, theirs);
+    else if (bar == 0)
+        printf("%-10s %9.3f   %-9s %9.3f   %5.2f\n", name, ours, form, theirs, ours / theirs);
+    else
+        printf("%-10s %9.3f   %-9s %9.3f   %5.2f   at most %.1f: %s\n", name, ours, form, theirs, ours / theirs, bar, ours / theirs <= bar ? "met" : "not met");
+}
+
+/* Peak resident size of a process of its own that decomposes and restores an image of side 512 with 8 levels, in KiB. */
+static long peak(int library)
+{
+    int ends[2];
+    long kib = 0;
+    fflush(stdout);
+    if (pipe(ends) != 0)
+        abort();
+    pid_t child = fork();
+    if (child < 0)
+        abort();
+    if (child == 0) {
+        dup2(ends[1], 1);
+        execl("/proc/self/exe", "bench", library ? "peak-library" : "peak-baseline", (char *)0);
+        _exit(1);
+    }
+    close(ends[1]);
+    FILE *in = fdopen(ends[0], "r");
+    if (in == NULL || fscanf(in, "%ld", &kib) != 1)
+        abort();
+    fclose(in);
+    waitpid(child, NULL, 0);
+    return kib;
+}
+
+static int peak_run(int library)
+{
+    size_t side = 512, levels = 8, area = side * side, blocks = tetrolet_blocks(side, levels);
+    uint32_t n;
+    make_image(side, 1);
+    if (library) {
+        n = tetrolet_decompose(side, levels, image, area, plane[0], area, coverings[0], blocks, scratch[0], area);
+        n |= tetrolet_restore(side, levels, plane[0], area, coverings[0], blocks, numerators[0], area, samples[0], area, scratch[0], area);
+    } else {
+        n = base_decompose(BASE_SHARED, side, levels, image, area, plane[0], area, coverings[0], blocks, scratch[0], area);
+        n |= base_restore(side, levels, plane[0], area, coverings[0], blocks, numerators[0], area, samples[0], area, scratch[0], area);
+    }
+    if (n != 0)
+        return 1;
+    FILE *status = fopen("/proc/self/status", "r");
+    char row[256];
+    while (status != NULL && fgets(row, sizeof row, status) != NULL)
+        if (!strncmp(row, "VmHWM:", 6))
+            printf("%ld\n", atol(row + 6));
+    return 0;
+}
+
+int main(int argc, char **argv)
+{
+    base_init();
+    if (argc == 2 && !strcmp(argv[1], "peak-library"))
+        return peak_run(1);
+    if (argc == 2 && !strcmp(argv[1], "peak-baseline"))
+        return peak_run(0);
+    size_t images = 0;
+    for (size_t side = 4, most = 1; side <= 512; side *= 2, most++)
+        for (size_t levels = 1; levels <= most; levels++)
+            for (int kind = 0; kind < 3; kind++, images++)
+                agree(side, levels, kind);
+    printf("both agree on %zu images\n\n", images);
+
+    struct times t = measure(512, 8);
+    double fast = t.straight < t.shared ? t.straight : t.shared;
+    printf("side 512, 8 levels, best of %d rounds, milliseconds\n", RUNS);
+    printf("%-10s %9s   %-9s %9s   %5s\n", "entry", "library", "C form", "C", "ratio");
+    line("decompose", t.decompose, "straight", t.straight, 0);
+    line("decompose", t.decompose, "shared", t.shared, 0);
+    line("decompose", t.decompose, "faster", fast, 1.3);
+    line("restore", t.restore, "plain", t.base_restore, 1.3);
+    line("keep", t.keep, "buckets", t.base_keep, 1.5);
+    line("write", t.write, "digits", t.digits, 1.5);
+    line("write", t.write, "snprintf", t.printed, 0);
+    line("read", t.read, "plain", t.base_read, 1.5);
+
+    printf("\ngrowth with the side, all levels, library, milliseconds (nanoseconds for each sample)\n");
+    printf("%5s  %17s  %17s  %17s  %17s  %17s\n", "side", "decompose", "restore", "keep", "write", "read");
+    for (size_t side = 64, levels = 5; side <= 512; side *= 2, levels++) {
+        struct times g = side == 512 ? t : measure(side, levels);
+        double ours[5] = { g.decompose, g.restore, g.keep, g.write, g.read };
+        printf("%5zu", side);
+        for (int k = 0; k < 5; k++)
+            if (ours[k] == 0)
+                printf("  %17s", "-");
+            else
+                printf("  %8.3f (%6.1f)", ours[k], ours[k] * 1e6 / (double)(side * side));
+        printf("\n");
+    }
+
+    size_t area = TETROLET_MAX_AREA;
+    printf("\npeak resident size, one decompose and one restore of side 512 with 8 levels, KiB: library %ld, C %ld\n", peak(1), peak(0));
+    printf("of these the slices lent: %zu\n", (area * (2 * 2 + 3 * 8) + TETROLET_MAX_BLOCKS) / 1024);
+    return 0;
+}

@@ -1,0 +1,60 @@
+/* A caller in C: decomposes a small image, keeps the best coefficients, writes the sheet, reads it back and restores the image. */
+#include "tetrolet.h"
+
+#include <inttypes.h>
+#include <stdio.h>
+#include <stdlib.h>
+
+enum { SIDE = 16, LEVELS = 3, AREA = SIDE * SIDE, BLOCKS = 16 + 4 + 1, QUOTA = 60 };
+
+static void accepted(const char *what, uint32_t refusal)
+{
+    if (refusal != TETROLET_ACCEPTED) {
+        printf("%s was refused: %" PRIu32 "\n", what, refusal);
+        exit(1);
+    }
+}
+
+int main(void)
+{
+    static uint16_t image[AREA], samples[AREA];
+    static int64_t plane[AREA], numerators[AREA], scratch[AREA];
+    static uint8_t coverings[BLOCKS];
+
+    /* A slope with a bright diagonal bar, stored down columns. */
+    for (int x = 0; x < SIDE; x++)
+        for (int y = 0; y < SIDE; y++)
+            image[x * SIDE + y] = (uint16_t)(100 * x + 20 * y + (abs(x - y) < 2 ? 1500 : 0));
+
+    accepted("decompose", tetrolet_decompose(SIDE, LEVELS, image, AREA, plane, AREA, coverings, BLOCKS, scratch, AREA));
+    int used[118] = { 0 }, kinds = 0, entries = 0;
+    for (int k = 0; k < BLOCKS; k++)
+        kinds += used[coverings[k]]++ == 0;
+    for (int k = 0; k < AREA; k++)
+        entries += plane[k] != 0;
+    printf("decomposed side %d with %d levels: %d blocks, %d different coverings, %d plane entries not zero\n", SIDE, LEVELS, BLOCKS, kinds, entries);
+
+#ifdef HAVE_ALL
+    size_t left = 0, length = 0, side = 0, levels = 0;
+    accepted("keep", tetrolet_keep(SIDE, LEVELS, plane, AREA, QUOTA, &left));
+    printf("kept %zu tetrolet coefficients\n", left);
+
+    static uint8_t sheet[AREA * 32];
+    accepted("write", tetrolet_write(SIDE, LEVELS, plane, AREA, coverings, BLOCKS, sheet, sizeof sheet, &length));
+    printf("wrote a sheet of %zu bytes\n", length);
+
+    static int64_t plane_read[AREA];
+    static uint8_t coverings_read[BLOCKS];
+    accepted("read", tetrolet_read(sheet, length, plane_read, AREA, coverings_read, BLOCKS, &side, &levels));
+    printf("read it back: side %zu, levels %zu\n", side, levels);
+    accepted("restore", tetrolet_restore(side, levels, plane_read, AREA, coverings_read, BLOCKS, numerators, AREA, samples, AREA, scratch, AREA));
+#else
+    accepted("restore", tetrolet_restore(SIDE, LEVELS, plane, AREA, coverings, BLOCKS, numerators, AREA, samples, AREA, scratch, AREA));
+#endif
+
+    long distance = 0;
+    for (int k = 0; k < AREA; k++)
+        distance += ((long)samples[k] - image[k]) * ((long)samples[k] - image[k]);
+    printf("restored: squared distance %ld over %d samples\n", distance, AREA);
+    return 0;
+}

@@ -1,0 +1,260 @@
+// A caller in Rust: decomposes a small image, keeps the best coefficients, writes the sheet, reads it back and restores the image.
+// The functions below wrap the C entries in slices, so that lengths and pointers cannot be mistaken.
+#![allow(unexpected_cfgs)]
+
+mod ffi {
+    extern "C" {
+        pub fn tetrolet_decompose(
+            side: usize,
+            levels: usize,
+            samples: *const u16,
+            samples_len: usize,
+            plane: *mut i64,
+            plane_len: usize,
+            coverings: *mut u8,
+            coverings_len: usize,
+            scratch: *mut i64,
+            scratch_len: usize,
+        ) -> u32;
+        pub fn tetrolet_restore(
+            side: usize,
+            levels: usize,
+            plane: *const i64,
+            plane_len: usize,
+            coverings: *const u8,
+            coverings_len: usize,
+            numerators: *mut i64,
+            numerators_len: usize,
+            samples: *mut u16,
+            samples_len: usize,
+            scratch: *mut i64,
+            scratch_len: usize,
+        ) -> u32;
+        #[cfg(have_all)]
+        pub fn tetrolet_keep(
+            side: usize,
+            levels: usize,
+            plane: *mut i64,
+            plane_len: usize,
+            quota: u64,
+            left: *mut usize,
+        ) -> u32;
+        #[cfg(have_all)]
+        pub fn tetrolet_write(
+            side: usize,
+            levels: usize,
+            plane: *const i64,
+            plane_len: usize,
+            coverings: *const u8,
+            coverings_len: usize,
+            buffer: *mut u8,
+            buffer_len: usize,
+            length: *mut usize,
+        ) -> u32;
+        #[cfg(have_all)]
+        pub fn tetrolet_read(
+            text: *const u8,
+            text_len: usize,
+            plane: *mut i64,
+            plane_len: usize,
+            coverings: *mut u8,
+            coverings_len: usize,
+            side: *mut usize,
+            levels: *mut usize,
+        ) -> u32;
+    }
+}
+
+type Answer<T> = Result<T, u32>;
+
+fn answer<T>(refusal: u32, value: T) -> Answer<T> {
+    if refusal == 0 {
+        Ok(value)
+    } else {
+        Err(refusal)
+    }
+}
+
+fn decompose(
+    side: usize,
+    levels: usize,
+    samples: &[u16],
+    plane: &mut [i64],
+    coverings: &mut [u8],
+    scratch: &mut [i64],
+) -> Answer<()> {
+    let n = unsafe {
+        ffi::tetrolet_decompose(
+            side,
+            levels,
+            samples.as_ptr(),
+            samples.len(),
+            plane.as_mut_ptr(),
+            plane.len(),
+            coverings.as_mut_ptr(),
+            coverings.len(),
+            scratch.as_mut_ptr(),
+            scratch.len(),
+        )
+    };
+    answer(n, ())
+}
+
+fn restore(
+    side: usize,
+    levels: usize,
+    plane: &[i64],
+    coverings: &[u8],
+    numerators: &mut [i64],
+    samples: &mut [u16],
+    scratch: &mut [i64],
+) -> Answer<()> {
+    let n = unsafe {
+        ffi::tetrolet_restore(
+            side,
+            levels,
+            plane.as_ptr(),
+            plane.len(),
+            coverings.as_ptr(),
+            coverings.len(),
+            numerators.as_mut_ptr(),
+            numerators.len(),
+            samples.as_mut_ptr(),
+            samples.len(),
+            scratch.as_mut_ptr(),
+            scratch.len(),
+        )
+    };
+    answer(n, ())
+}
+
+#[cfg(have_all)]
+fn keep(side: usize, levels: usize, plane: &mut [i64], quota: u64) -> Answer<usize> {
+    let mut left = 0;
+    let n = unsafe {
+        ffi::tetrolet_keep(
+            side,
+            levels,
+            plane.as_mut_ptr(),
+            plane.len(),
+            quota,
+            &mut left,
+        )
+    };
+    answer(n, left)
+}
+
+#[cfg(have_all)]
+fn write(
+    side: usize,
+    levels: usize,
+    plane: &[i64],
+    coverings: &[u8],
+    buffer: &mut [u8],
+) -> Answer<usize> {
+    let mut length = 0;
+    let n = unsafe {
+        ffi::tetrolet_write(
+            side,
+            levels,
+            plane.as_ptr(),
+            plane.len(),
+            coverings.as_ptr(),
+            coverings.len(),
+            buffer.as_mut_ptr(),
+            buffer.len(),
+            &mut length,
+        )
+    };
+    answer(n, length)
+}
+
+#[cfg(have_all)]
+fn read(text: &[u8], plane: &mut [i64], coverings: &mut [u8]) -> Answer<(usize, usize)> {
+    let (mut side, mut levels) = (0, 0);
+    let n = unsafe {
+        ffi::tetrolet_read(
+            text.as_ptr(),
+            text.len(),
+            plane.as_mut_ptr(),
+            plane.len(),
+            coverings.as_mut_ptr(),
+            coverings.len(),
+            &mut side,
+            &mut levels,
+        )
+    };
+    answer(n, (side, levels))
+}
+
+fn run() -> Answer<()> {
+    const SIDE: usize = 16;
+    const LEVELS: usize = 3;
+    const AREA: usize = SIDE * SIDE;
+    const BLOCKS: usize = 16 + 4 + 1;
+
+    // A slope with a bright diagonal bar, stored down columns.
+    let mut image = vec![0u16; AREA];
+    for x in 0..SIDE {
+        for y in 0..SIDE {
+            image[x * SIDE + y] =
+                (100 * x + 20 * y + if x.abs_diff(y) < 2 { 1500 } else { 0 }) as u16;
+        }
+    }
+
+    let (mut plane, mut coverings, mut scratch) = (vec![0; AREA], vec![0; BLOCKS], vec![0; AREA]);
+    decompose(
+        SIDE,
+        LEVELS,
+        &image,
+        &mut plane,
+        &mut coverings,
+        &mut scratch,
+    )?;
+    let kinds = coverings
+        .iter()
+        .collect::<std::collections::BTreeSet<_>>()
+        .len();
+    let entries = plane.iter().filter(|v| **v != 0).count();
+    println!("decomposed side {SIDE} with {LEVELS} levels: {BLOCKS} blocks, {kinds} different coverings, {entries} plane entries not zero");
+
+    #[cfg(have_all)]
+    let (side, levels, plane, coverings) = {
+        let left = keep(SIDE, LEVELS, &mut plane, 60)?;
+        println!("kept {left} tetrolet coefficients");
+        let mut sheet = vec![0; 32 * AREA];
+        let length = write(SIDE, LEVELS, &plane, &coverings, &mut sheet)?;
+        println!("wrote a sheet of {length} bytes");
+        let (mut plane, mut coverings) = (vec![0; AREA], vec![0; BLOCKS]);
+        let (side, levels) = read(&sheet[..length], &mut plane, &mut coverings)?;
+        println!("read it back: side {side}, levels {levels}");
+        (side, levels, plane, coverings)
+    };
+    #[cfg(not(have_all))]
+    let (side, levels) = (SIDE, LEVELS);
+
+    let (mut numerators, mut samples) = (vec![0; AREA], vec![0; AREA]);
+    restore(
+        side,
+        levels,
+        &plane,
+        &coverings,
+        &mut numerators,
+        &mut samples,
+        &mut scratch,
+    )?;
+    let distance: i64 = image
+        .iter()
+        .zip(&samples)
+        .map(|(a, b)| (*a as i64 - *b as i64).pow(2))
+        .sum();
+    println!("restored: squared distance {distance} over {AREA} samples");
+    Ok(())
+}
+
+fn main() {
+    if let Err(refusal) = run() {
+        println!("refused: {refusal}");
+        std::process::exit(1);
+    }
+}

@@ -1,0 +1,133 @@
+/* Images in PGM files to sheets and back.
+
+   pgm to-sheet LEVELS QUOTA <in.pgm >out.sheet    P2 or P5, maxval up to 4095, square, of a side that the library accepts
+   pgm to-pgm [MAXVAL]       <in.sheet >out.pgm    P5; MAXVAL, 4095 where it is not given, is that of the original
+
+   A refusal is printed as the cutter prints it: `refusal`, then the number, and the exit status is 1. A file that is no PGM file is 9;
+   an image that is not square is 1; a maxval over 4095 is 4. Their order is that of the cutter: 9 on the header, 1, 2, 9 on all that
+   follows, 4, 7. */
+#include "image.h"
+#include "tetrolet.h"
+
+#include <stdlib.h>
+#include <string.h>
+
+#define MOST_BYTES ((size_t)1 << 24)
+
+static int refuse(uint32_t number)
+{
+    printf("refusal\n%u\n", (unsigned)number);
+    return 1;
+}
+
+static int use(void)
+{
+    fprintf(stderr, "use: pgm to-sheet LEVELS QUOTA <in.pgm >out.sheet\n     pgm to-pgm [MAXVAL] <in.sheet >out.pgm\n");
+    return 2;
+}
+
+/* A decimal argument of at most ten digits. */
+static int argument(const char *s, unsigned long long *value)
+{
+    size_t n = strlen(s);
+    if (n == 0 || n > 10 || strspn(s, "0123456789") != n)
+        return 0;
+    *value = strtoull(s, NULL, 10);
+    return 1;
+}
+
+static int fail(const char *what)
+{
+    fprintf(stderr, "pgm: %s\n", what);
+    return 2;
+}
+
+static uint16_t samples[TETROLET_MAX_AREA];
+static int64_t plane[TETROLET_MAX_AREA], numerators[TETROLET_MAX_AREA], scratch[TETROLET_MAX_AREA];
+static uint8_t coverings[TETROLET_MAX_BLOCKS], sheet[TETROLET_MAX_SHEET];
+
+static int is_side(unsigned long long n)
+{
+    return n >= 4 && n <= 512 && (n & (n - 1)) == 0;
+}
+
+static int is_depth(unsigned long long side, unsigned long long levels)
+{
+    return levels >= 1 && levels <= 8 && side >> levels >= 2;
+}
+
+static int to_sheet(unsigned long long levels, unsigned long long quota)
+{
+    uint8_t *bytes;
+    size_t length, left;
+    struct pgm h;
+    if (!read_all(stdin, MOST_BYTES, &bytes, &length) || !pgm_header(bytes, length, &h))
+        return refuse(TETROLET_TEXT);
+    if (h.width != h.height || !is_side(h.width))
+        return refuse(TETROLET_SIDE);
+    if (!is_depth(h.width, levels))
+        return refuse(TETROLET_LEVELS);
+    if (!pgm_samples(&h, samples))
+        return refuse(TETROLET_TEXT);
+    if (h.maxval > 4095)
+        return refuse(TETROLET_SAMPLE);
+    free(bytes);
+    size_t side = h.width, area = side * side, blocks = tetrolet_blocks(side, levels);
+    uint32_t n = tetrolet_decompose(side, levels, samples, area, plane, area, coverings, blocks, scratch, area);
+    if (n == 0)
+        n = tetrolet_keep(side, levels, plane, area, quota, &left);
+    if (n == 0)
+        n = tetrolet_write(side, levels, plane, area, coverings, blocks, sheet, sizeof sheet, &length);
+    if (n != 0)
+        return refuse(n);
+    if (fwrite(sheet, 1, length, stdout) != length || fflush(stdout) != 0)
+        return fail("cannot write");
+    return 0;
+}
+
+/* The side and the levels that the second line of a sheet gives, where both are accepted; else 0, and the library says why. */
+static int frame_of(const uint8_t *text, size_t length, size_t *side, size_t *levels)
+{
+    char head[64];
+    unsigned s, l;
+    size_t n = length < sizeof head - 1 ? length : sizeof head - 1;
+    memcpy(head, text, n);
+    head[n] = 0;
+    if (sscanf(head, "side levels\n%9u %9u", &s, &l) != 2 || !is_side(s) || !is_depth(s, l))
+        return 0;
+    *side = s;
+    *levels = l;
+    return 1;
+}
+
+static int to_pgm(unsigned maxval)
+{
+    uint8_t *bytes;
+    size_t length, side = 0, levels = 0, area = 0, blocks = 0;
+    if (!read_all(stdin, MOST_BYTES, &bytes, &length))
+        return refuse(TETROLET_TEXT);
+    if (frame_of(bytes, length, &side, &levels)) {
+        area = side * side;
+        blocks = tetrolet_blocks(side, levels);
+    }
+    uint32_t n = tetrolet_read(bytes, length, plane, area, coverings, blocks, &side, &levels);
+    if (n == 0)
+        n = tetrolet_restore(side, levels, plane, area, coverings, blocks, numerators, area, samples, area, scratch, area);
+    if (n != 0)
+        return refuse(n);
+    if (!pgm_write(stdout, samples, side, maxval))
+        return fail("cannot write");
+    return 0;
+}
+
+int main(int argc, char **argv)
+{
+    unsigned long long a = 0, b = 0;
+    if (argc == 4 && !strcmp(argv[1], "to-sheet") && argument(argv[2], &a) && argument(argv[3], &b))
+        return to_sheet(a, b);
+    if (argc == 2 && !strcmp(argv[1], "to-pgm"))
+        return to_pgm(4095);
+    if (argc == 3 && !strcmp(argv[1], "to-pgm") && argument(argv[2], &a) && a >= 1 && a <= 4095)
+        return to_pgm((unsigned)a);
+    return use();
+}

@@ -1,0 +1,31 @@
+#!/usr/bin/env bash
+# Builds the picture programs; makes the synthetic veneer and the picture that compares two ways of sharing a quota; turns the veneer
+# into a sheet and back. Needs a C compiler. With --built the library is taken as it stands.
+set -eu
+cd "$(dirname "$0")/.."
+mkdir -p target/pictures
+if [ "${1:-}" != --built ]; then
+    rt staticlib c_api >target/pictures/staticlib.log 2>&1 || { cat target/pictures/staticlib.log; exit 1; }
+fi
+archive=target/staticlib/libc_api.a
+flags='-O2 -std=c11 -Wall -Wextra -Iinclude -Ibench -Ipictures'
+levels=6 quota=6554
+
+cc $flags pictures/veneer.c pictures/image.c -o target/pictures/veneer
+target/pictures/veneer >target/pictures/veneer.pgm
+cmp target/pictures/veneer.pgm pictures/veneer.pgm
+
+cc $flags pictures/compare.c pictures/image.c bench/baseline.c -Wl,--whole-archive "$archive" -Wl,--no-whole-archive -o target/pictures/compare
+target/pictures/compare $levels $quota <pictures/veneer.pgm >target/pictures/quota.png
+cmp target/pictures/quota.png pictures/quota.png
+
+if [ "$(nm "$archive" 2>/dev/null | grep -cE ' T tetrolet_(keep|write|read)$')" = 3 ]; then
+    cc $flags pictures/pgm.c pictures/image.c "$archive" -o target/pictures/pgm
+    target/pictures/pgm to-sheet $levels $quota <pictures/veneer.pgm >target/pictures/veneer.sheet
+    target/pictures/pgm to-pgm <target/pictures/veneer.sheet >target/pictures/kept.pgm
+    echo "target/pictures/veneer.sheet: $(wc -c <target/pictures/veneer.sheet) bytes; target/pictures/kept.pgm: what a quota of $quota leaves"
+    target/pictures/pgm to-sheet $levels 65520 <pictures/veneer.pgm | target/pictures/pgm to-pgm | cmp - pictures/veneer.pgm
+    echo "the whole quota gives the picture back"
+else
+    echo "keep, write and read are not exported yet: target/pictures/pgm is not built"
+fi

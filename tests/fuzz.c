@@ -1,0 +1,577 @@
+/* Random and damaged calls through the C interface, compared with the plain C of bench/baseline.c: the answer, every slice and every
+   number lent. A refused call must leave all as it was.
+
+   fuzz [CALLS [SEED]]
+
+   Each slice lent to the library stands flush against a page that may not be touched, before it or after it, so that a read or a
+   store outside it ends the program. The plain C works on heap blocks of exact length, under the address sanitizer. */
+#define _GNU_SOURCE
+#include "baseline.h"
+#include "weak.h"
+
+#include <stdio.h>
+#include <stdlib.h>
+#include <string.h>
+#include <sys/mman.h>
+
+static uint64_t state;
+
+static uint64_t next(void)
+{
+    state ^= state << 13;
+    state ^= state >> 7;
+    state ^= state << 17;
+    return state * 2685821657736338717u;
+}
+
+static uint64_t below(uint64_t n)
+{
+    return (next() >> 16) % n;
+}
+
+static int once_in(uint64_t n)
+{
+    return below(n) == 0;
+}
+
+/* ---- Slices ---- */
+
+#define SLOTS 6
+#define ROOM ((size_t)6 << 20)
+#define PAGE ((size_t)4096)
+
+struct slice {
+    void *lib;   /* lent to the library */
+    void *base;  /* lent to the plain C */
+    void *old;   /* what both held before */
+    size_t len;  /* in elements */
+    size_t bytes;
+};
+
+static uint8_t *slots[SLOTS];
+static struct slice lent[SLOTS];
+static int lent_count;
+
+static void make_slots(void)
+{
+    for (int k = 0; k < SLOTS; k++) {
+        uint8_t *p = mmap(NULL, ROOM + 2 * PAGE, PROT_NONE, MAP_PRIVATE | MAP_ANONYMOUS, -1, 0);
+        if (p == MAP_FAILED || mprotect(p + PAGE, ROOM, PROT_READ | PROT_WRITE) != 0) {
+            perror("mmap");
+            exit(2);
+        }
+        slots[k] = p + PAGE;
+    }
+}
+
+/* A slice of `len` elements that holds rubbish. Its contents are set in `base`, and copied by `settle`. */
+static struct slice *lend(size_t len, size_t size)
+{
+    struct slice *s = &lent[lent_count];
+    s->len = len;
+    s->bytes = len * size;
+    if (s->bytes > ROOM)
+        abort();
+    s->lib = once_in(2) ? slots[lent_count] : slots[lent_count] + ROOM - s->bytes;
+    s->base = malloc(s->bytes);
+    s->old = malloc(s->bytes);
+    uint8_t *p = s->base;
+    uint64_t r = next();
+    for (size_t i = 0; i < s->bytes; i++)
+        p[i] = (uint8_t)(r >> (i % 7 * 8)) ^ (uint8_t)i;
+    lent_count++;
+    return s;
+}
+
+static void settle(void)
+{
+    for (int k = 0; k < lent_count; k++) {
+        memcpy(lent[k].lib, lent[k].base, lent[k].bytes);
+        memcpy(lent[k].old, lent[k].base, lent[k].bytes);
+    }
+}
+
+static uint64_t call_number, first_seed;
+static const char *entry;
+
+static void differ(const char *what)
+{
+    printf("call %llu with seed %llu, %s: %s\n", (unsigned long long)call_number, (unsigned long long)first_seed, entry, what);
+    exit(1);
+}
+
+struct tally {
+    const char *name;
+    unsigned long accepted, refused[16];
+};
+
+/* Compares what a call left, and gives the slices back. */
+static void compare(struct tally *t, uint32_t a, uint32_t b)
+{
+    if (a != b) {
+        printf("the library answers %u, the plain C %u\n", a, b);
+        differ("answers differ");
+    }
+    for (int k = 0; k < lent_count; k++) {
+        if (a != 0 && memcmp(lent[k].lib, lent[k].old, lent[k].bytes) != 0)
+            differ("a refused call changed a slice");
+        if (memcmp(lent[k].lib, lent[k].base, lent[k].bytes) != 0)
+            differ("slices differ");
+    }
+    if (a == 0)
+        t->accepted++;
+    else
+        t->refused[a & 15]++;
+}
+
+static void drop(void)
+{
+    for (int k = 0; k < lent_count; k++) {
+        free(lent[k].base);
+        free(lent[k].old);
+    }
+    lent_count = 0;
+}
+
+/* ---- Random arguments ---- */
+
+static size_t good_side(void)
+{
+    uint64_t n = below(4096);
+    return n < 2100 ? 4 : n < 3300 ? 8 : n < 3900 ? 16 : n < 4070 ? 32 : n < 4092 ? 64 : n < 4094 ? 128 : n < 4095 ? 256 : 512;
+}
+
+static size_t most_levels(size_t side)
+{
+    size_t r = 0;
+    while (side > 2) {
+        side /= 2;
+        r++;
+    }
+    return r;
+}
+
+/* The side and the levels of a call, and those that its slices are made for. */
+struct frame {
+    size_t side, levels, area, blocks, good_levels, made;
+};
+
+static struct frame make_frame(void)
+{
+    static const size_t bad_sides[] = { 0, 1, 2, 3, 5, 6, 7, 12, 20, 24, 48, 513, 1024, 65540, ((size_t)1 << 32) + 4, (size_t)1 << 63, SIZE_MAX };
+    static const size_t bad_levels[] = { 0, 9, 10, 63, 64, 65, 257, ((size_t)1 << 32) + 1, SIZE_MAX };
+    struct frame f;
+    f.made = good_side();
+    f.good_levels = 1 + below(most_levels(f.made));
+    f.area = f.made * f.made;
+    f.blocks = tetrolet_blocks(f.made, f.good_levels);
+    f.side = once_in(25) ? bad_sides[below(sizeof bad_sides / sizeof *bad_sides)] : f.made;
+    f.levels = once_in(25) ? bad_levels[below(sizeof bad_levels / sizeof *bad_levels)] : once_in(40) ? most_levels(f.made) + 1 : f.good_levels;
+    return f;
+}
+
+/* A length that is now and then wrong. */
+static size_t length_near(size_t n)
+{
+    if (!once_in(50))
+        return n;
+    switch (below(5)) {
+    case 0: return 0;
+    case 1: return n + 1;
+    case 2: return n > 0 ? n - 1 : 1;
+    case 3: return n / 2;
+    default: return n * 2;
+    }
+}
+
+static void fill_samples(uint16_t *p, size_t n)
+{
+    uint64_t kind = below(5), range = 1 + below(4096), start = below(4096 - range + 1);
+    for (size_t i = 0; i < n; i++)
+        p[i] = (uint16_t)(kind == 0 ? start : kind == 1 ? below(3) * 5 : kind == 2 ? (start + i * 3) % 4096 : start + below(range));
+    if (n > 0 && once_in(30))
+        p[below(n)] = (uint16_t)(once_in(2) ? 4096 : 4096 + below(61440));
+}
+
+static void fill_coverings(uint8_t *p, size_t n)
+{
+    uint64_t range = 1 + below(117);
+    for (size_t i = 0; i < n; i++)
+        p[i] = (uint8_t)(1 + below(range));
+    if (n > 0 && once_in(30))
+        p[below(n)] = (uint8_t)(once_in(3) ? 0 : 118 + below(138));
+}
+
+/* A plane: of a real image, or random entries up to their ranges; now and then an entry out of range. */
+static void fill_plane(int64_t *p, size_t n, struct frame f)
+{
+    if (n == f.area && once_in(2)) {
+        uint16_t *samples = malloc(f.area * sizeof *samples);
+        int64_t *scratch = malloc(f.area * sizeof *scratch);
+        uint8_t *coverings = malloc(f.blocks);
+        uint64_t range = 1 + below(4096);
+        for (size_t i = 0; i < f.area; i++)
+            samples[i] = (uint16_t)below(range);
+        if (base_decompose(BASE_STRAIGHT, f.made, f.good_levels, samples, f.area, p, f.area, coverings, f.blocks, scratch, f.area) != 0)
+            abort();
+        free(samples);
+        free(scratch);
+        free(coverings);
+    } else {
+        uint64_t kind = below(4);
+        for (size_t i = 0; i < n; i++) {
+            size_t x = i / f.made, y = i % f.made, m = x > y ? x : y, r = 1;
+            while (r < f.good_levels && m < f.made >> r)
+                r++;
+            int low = m < f.made >> f.good_levels;
+            int64_t most = low ? (int64_t)4095 << 2 * f.good_levels : (int64_t)8190 << 2 * (r - 1);
+            if (kind == 0)
+                p[i] = 0;
+            else if (kind == 1)
+                p[i] = low ? (int64_t)below((uint64_t)most + 1) : (int64_t)below(2 * (uint64_t)most + 1) - most;
+            else if (kind == 2)
+                p[i] = once_in(2) ? most : low ? 0 : -most;
+            else
+                p[i] = low ? (int64_t)below(9) : (int64_t)below(9) - 4;
+        }
+    }
+    if (n > 0 && once_in(25)) {
+        static const int64_t bad[] = { INT64_MIN, INT64_MAX, -1, INT64_MIN + 1, 8190, 8191, -8190, -8191, 16380, 16381, 32760, 32761, -32761, 268369920,
+                                       268369921, (int64_t)1 << 32 };
+        p[below(n)] = bad[below(sizeof bad / sizeof *bad)];
+    }
+}
+
+/* ---- Texts ---- */
+
+static uint8_t text[1 << 21];
+static size_t text_len;
+
+static void splice(size_t at, size_t cut, const void *put, size_t count)
+{
+    if (text_len - cut + count > sizeof text / 2)
+        return;
+    memmove(text + at + count, text + at + cut, text_len - at - cut);
+    memcpy(text + at, put, count);
+    text_len = text_len - cut + count;
+}
+
+static size_t line_start(size_t at)
+{
+    while (at > 0 && text[at - 1] != '\n')
+        at--;
+    return at;
+}
+
+static size_t line_end(size_t at)
+{
+    while (at < text_len && text[at] != '\n')
+        at++;
+    return at < text_len ? at + 1 : at;
+}
+
+/* One damage to the text. */
+static void damage(void)
+{
+    static const char *numbers[] = { "0", "1", "2", "3", "4", "5", "8", "117", "118", "255", "256", "257", "512", "4095", "4096", "65543", "2147483647",
+                                     "2147483648", "4294967297", "18446744073709551617", "99999999999999999999999", "-1", "-0", "00", "07", "-", "+1", "",
+                                     "-2147483647", "-2147483648" };
+    static const char bytes[] = "0123456789-- \n\n\r\t+.lsx\0\xff";
+    if (text_len == 0)
+        return;
+    size_t at = below(text_len);
+    uint64_t kind = below(10);
+    if (kind >= 8) { /* a number of the second line, or the last number of a line in the first half */
+        at = kind == 8 ? line_end(0) + below(4) : line_end(below(text_len / 2 + 1)) - 1;
+        if (at >= text_len)
+            return;
+        kind = 3;
+    }
+    switch (kind) {
+    case 0:
+        text[at] = (uint8_t)bytes[below(sizeof bytes - 1)];
+        break;
+    case 1:
+        splice(at, 0, bytes + below(sizeof bytes - 1), 1);
+        break;
+    case 2:
+        splice(at, 1, "", 0);
+        break;
+    case 3: { /* a number changed */
+        while (at > 0 && text[at - 1] != ' ' && text[at - 1] != '\n')
+            at--;
+        size_t end = at;
+        while (end < text_len && text[end] != ' ' && text[end] != '\n')
+            end++;
+        const char *n = numbers[below(sizeof numbers / sizeof *numbers)];
+        splice(at, end - at, n, strlen(n));
+        break;
+    }
+    case 4: /* a line left out */
+        at = line_start(at);
+        splice(at, line_end(at) - at, "", 0);
+        break;
+    case 5: { /* a line twice, here or elsewhere */
+        uint8_t copy[256];
+        size_t from = line_start(at), n = line_end(at) - from;
+        if (n > sizeof copy)
+            break;
+        memcpy(copy, text + from, n);
+        splice(once_in(2) ? from : line_start(below(text_len)), 0, copy, n);
+        break;
+    }
+    case 6: { /* a line moved */
+        uint8_t copy[256];
+        size_t from = line_start(at), n = line_end(at) - from;
+        if (n > sizeof copy)
+            break;
+        memcpy(copy, text + from, n);
+        splice(from, n, "", 0);
+        splice(text_len == 0 ? 0 : line_start(below(text_len)), 0, copy, n);
+        break;
+    }
+    default:
+        text_len = at;
+    }
+}
+
+static void damage_some(void)
+{
+    if (once_in(3))
+        return;
+    for (uint64_t k = 1 + below(3); k > 0; k--)
+        damage();
+}
+
+/* ---- The calls ---- */
+
+static void call_word(struct tally *t)
+{
+    uint8_t covering = (uint8_t)(once_in(4) ? below(256) : 1 + below(117));
+    struct slice *word = lend(length_near(16), 1);
+    settle();
+    compare(t, tetrolet_word(covering, word->lib, word->len), base_word(covering, word->base, word->len));
+}
+
+static void call_decompose(struct tally *t)
+{
+    struct frame f = make_frame();
+    struct slice *samples = lend(length_near(f.area), 2), *plane = lend(length_near(f.area), 8), *coverings = lend(length_near(f.blocks), 1),
+                 *scratch = lend(length_near(f.area), 8);
+    fill_samples(samples->base, samples->len);
+    settle();
+    uint32_t a = tetrolet_decompose(f.side, f.levels, samples->lib, samples->len, plane->lib, plane->len, coverings->lib, coverings->len, scratch->lib,
+                                    scratch->len);
+    compare(t, a, base_decompose((int)below(2), f.side, f.levels, samples->base, samples->len, plane->base, plane->len, coverings->base, coverings->len,
+                                 scratch->base, scratch->len));
+}
+
+static void call_restore(struct tally *t)
+{
+    struct frame f = make_frame();
+    struct slice *plane = lend(length_near(f.area), 8), *coverings = lend(length_near(f.blocks), 1), *numerators = lend(length_near(f.area), 8),
+                 *samples = lend(length_near(f.area), 2), *scratch = lend(length_near(f.area), 8);
+    fill_plane(plane->base, plane->len, f);
+    fill_coverings(coverings->base, coverings->len);
+    settle();
+    uint32_t a = tetrolet_restore(f.side, f.levels, plane->lib, plane->len, coverings->lib, coverings->len, numerators->lib, numerators->len,
+                                  samples->lib, samples->len, scratch->lib, scratch->len);
+    compare(t, a, base_restore(f.side, f.levels, plane->base, plane->len, coverings->base, coverings->len, numerators->base, numerators->len,
+                               samples->base, samples->len, scratch->base, scratch->len));
+}
+
+static void call_keep(struct tally *t)
+{
+    struct frame f = make_frame();
+    struct slice *plane = lend(length_near(f.area), 8), *left = lend(1, sizeof(size_t));
+    uint64_t most = f.area - (f.area >> 2 * f.good_levels), kind = below(12);
+    uint64_t quota = kind == 0 ? 0 : kind == 1 ? most : kind == 2 ? most + 1 : kind == 3 ? next() : kind == 4 ? UINT64_MAX : below(most + 1);
+    fill_plane(plane->base, plane->len, f);
+    settle();
+    uint32_t a = tetrolet_keep(f.side, f.levels, plane->lib, plane->len, quota, left->lib);
+    compare(t, a, base_keep(f.side, f.levels, plane->base, plane->len, quota, left->base));
+}
+
+static void call_threshold(struct tally *t)
+{
+    struct frame f = make_frame();
+    struct slice *plane = lend(length_near(f.area), 8), *left = lend(1, sizeof(size_t));
+    uint64_t kind = below(12);
+    uint64_t threshold = kind == 0 ? 0 : kind == 1 ? 1000000 : kind == 2 ? 1000001 : kind == 3 ? next() : kind == 4 ? UINT64_MAX : below(kind * 100);
+    fill_plane(plane->base, plane->len, f);
+    settle();
+    uint32_t a = tetrolet_threshold(f.side, f.levels, plane->lib, plane->len, threshold, left->lib);
+    compare(t, a, base_threshold(f.side, f.levels, plane->base, plane->len, threshold, left->base));
+}
+
+/* A buffer for a text of n bytes: of that length, one more, one less, or any. */
+static struct slice *lend_buffer(size_t n)
+{
+    uint64_t kind = below(6);
+    return lend(kind == 0 ? n : kind == 1 ? n + 1 : kind == 2 && n > 0 ? n - 1 : kind == 3 ? below(n + 1) : n + below(100), 1);
+}
+
+static void call_write(struct tally *t)
+{
+    static uint8_t sheet[TETROLET_MAX_SHEET];
+    struct frame f = make_frame();
+    struct slice *plane = lend(length_near(f.area), 8), *coverings = lend(length_near(f.blocks), 1), *length = lend(1, sizeof(size_t));
+    fill_plane(plane->base, plane->len, f);
+    fill_coverings(coverings->base, coverings->len);
+    size_t n = 0;
+    if (base_write(BASE_PRINTF, f.side, f.levels, plane->base, plane->len, coverings->base, coverings->len, sheet, sizeof sheet, &n) != 0)
+        n = below(400);
+    struct slice *buffer = lend_buffer(n);
+    settle();
+    uint32_t a = tetrolet_write(f.side, f.levels, plane->lib, plane->len, coverings->lib, coverings->len, buffer->lib, buffer->len, length->lib);
+    compare(t, a, base_write(BASE_DIGITS, f.side, f.levels, plane->base, plane->len, coverings->base, coverings->len, buffer->base, buffer->len,
+                             length->base));
+}
+
+static void call_read(struct tally *t)
+{
+    struct frame f = make_frame();
+    while (f.made > 64)
+        f = make_frame();
+    int64_t *p = malloc(f.area * sizeof *p);
+    uint8_t *c = malloc(f.blocks);
+    fill_plane(p, f.area, f);
+    for (size_t i = 0; i < f.blocks; i++)
+        c[i] = (uint8_t)(1 + below(117));
+    if (base_write(BASE_DIGITS, f.made, f.good_levels, p, f.area, c, f.blocks, text, sizeof text, &text_len) != 0)
+        text_len = below(64);
+    free(p);
+    free(c);
+    damage_some();
+    struct slice *sheet = lend(text_len, 1), *plane = lend(length_near(f.area), 8), *coverings = lend(length_near(f.blocks), 1),
+                 *side = lend(1, sizeof(size_t)), *levels = lend(1, sizeof(size_t));
+    memcpy(sheet->base, text, text_len);
+    settle();
+    uint32_t a = tetrolet_read(sheet->lib, sheet->len, plane->lib, plane->len, coverings->lib, coverings->len, side->lib, levels->lib);
+    compare(t, a, base_read(sheet->base, sheet->len, plane->base, plane->len, coverings->base, coverings->len, side->base, levels->base));
+}
+
+/* The lines after the first in rising order, for a list whose order is open. */
+static int by_bytes(const void *a, const void *b)
+{
+    return memcmp(a, b, 16);
+}
+
+static void sort_lines(uint8_t *p, size_t n)
+{
+    static uint8_t lines[32768][16];
+    size_t count = 0, at = 0;
+    while (at < n && count < 32768) {
+        size_t end = at;
+        while (end < n && p[end] != '\n')
+            end++;
+        end += end < n;
+        if (end - at > 15)
+            return;
+        memset(lines[count], 0, 16);
+        memcpy(lines[count++], p + at, end - at);
+        at = end;
+    }
+    qsort(lines, count, 16, by_bytes);
+    at = 0;
+    for (size_t k = 0; k < count; k++) {
+        size_t m = strlen((char *)lines[k]);
+        if (m > n - at)
+            return;
+        memcpy(p + at, lines[k], m);
+        at += m;
+    }
+}
+
+static void call_usage(struct tally *t)
+{
+    uint64_t kind = below(2000);
+    size_t n = kind == 0 ? 21845 : kind == 1 ? 21846 : kind == 2 ? 21845 + below(1000) : kind < 100 ? below(3000) : below(60);
+    struct slice *coverings = lend(n, 1), *length = lend(1, sizeof(size_t));
+    fill_coverings(coverings->base, n);
+    uint8_t list[TETROLET_MAX_USAGE];
+    size_t size = 0;
+    if (base_usage(coverings->base, n, list, sizeof list, &size) != 0)
+        size = below(100);
+    struct slice *buffer = lend_buffer(size);
+    settle();
+    uint32_t a = tetrolet_usage(coverings->lib, n, buffer->lib, buffer->len, length->lib);
+    uint32_t b = base_usage(coverings->base, n, buffer->base, buffer->len, length->base);
+    if (a == 0 && b == 0 && *(size_t *)length->lib == size) {
+        sort_lines(buffer->lib, size);
+        sort_lines(buffer->base, size);
+    }
+    compare(t, a, b);
+}
+
+static void call_cutter(struct tally *t)
+{
+    struct frame f = make_frame();
+    uint64_t most = f.area - (f.area >> 2 * f.good_levels), range = 1 + below(4096);
+    if (f.made > 64)
+        f.made = 64;
+    text_len = (size_t)sprintf((char *)text, "side levels quota\n%zu %zu %llu\nsamples\n", f.side, f.levels, (unsigned long long)below(most + 2));
+    for (size_t y = 0; y < f.made; y++)
+        for (size_t x = 0; x < f.made; x++)
+            text_len += (size_t)sprintf((char *)text + text_len, "%llu%c", (unsigned long long)below(range), x + 1 == f.made ? '\n' : ' ');
+    damage_some();
+    if (once_in(2000)) { /* at the limit of the length */
+        size_t n = 65536 + below(2);
+        while (text_len < n)
+            text[text_len++] = once_in(2) ? ' ' : '0';
+    }
+    struct slice *in = lend(text_len, 1), *out = lend(TETROLET_MAX_CUTTER_SHEET, 1), *length = lend(1, sizeof(size_t));
+    memcpy(in->base, text, text_len);
+    settle();
+    uint32_t a = tetrolet_cutter(in->lib, in->len, out->lib, out->len, length->lib);
+    compare(t, a, base_cutter(in->base, in->len, out->base, out->len, length->base));
+}
+
+int main(int argc, char **argv)
+{
+    uint64_t calls = argc > 1 ? strtoull(argv[1], NULL, 10) : 1000000;
+    first_seed = argc > 2 ? strtoull(argv[2], NULL, 10) : 1;
+    state = first_seed * 0x9e3779b97f4a7c15u + 88172645463325252u;
+    base_init();
+    make_slots();
+    struct {
+        int there;
+        void (*run)(struct tally *);
+        struct tally tally;
+    } entries[] = {
+        { tetrolet_word != NULL, call_word, { "word", 0, { 0 } } },
+        { tetrolet_decompose != NULL, call_decompose, { "decompose", 0, { 0 } } },
+        { tetrolet_restore != NULL, call_restore, { "restore", 0, { 0 } } },
+        { tetrolet_keep != NULL, call_keep, { "keep", 0, { 0 } } },
+        { tetrolet_threshold != NULL, call_threshold, { "threshold", 0, { 0 } } },
+        { tetrolet_write != NULL, call_write, { "write", 0, { 0 } } },
+        { tetrolet_read != NULL, call_read, { "read", 0, { 0 } } },
+        { tetrolet_usage != NULL, call_usage, { "usage", 0, { 0 } } },
+        { tetrolet_cutter != NULL, call_cutter, { "cutter", 0, { 0 } } },
+    };
+    size_t count = sizeof entries / sizeof *entries;
+    for (size_t k = 0; k < count; k++)
+        if (!entries[k].there)
+            printf("%s is not exported yet: left out\n", entries[k].tally.name);
+    for (call_number = 0; call_number < calls;) {
+        size_t k = below(count);
+        if (!entries[k].there)
+            continue;
+        entry = entries[k].tally.name;
+        entries[k].run(&entries[k].tally);
+        drop();
+        call_number++;
+    }
+    for (size_t k = 0; k < count; k++) {
+        struct tally *t = &entries[k].tally;
+        if (!entries[k].there)
+            continue;
+        printf("%-10s %8lu accepted; refused:", t->name, t->accepted);
+        for (int n = 1; n < 16; n++)
+            if (t->refused[n] != 0)
+                printf("  %d: %lu", n, t->refused[n]);
+        printf("\n");
+    }
+    printf("%llu calls, no difference\n", (unsigned long long)calls);
+    return 0;
+}
