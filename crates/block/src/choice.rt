@@ -40,9 +40,9 @@ fn placed_cell(placements: &[u8; 356], k: usize) -> usize
 }
 
 // The sum of the three absolute tetrolet coefficients of a placement.
-fn placement_cost(placements: &[u8; 356], k: usize, v: [i64; 16]) -> u64
-    requires { ⌜ (now placements ≡ placementTable) × (k < 89) × Within (2 ^ 40) v ⌝ }
-    ensures { λ r. ⌜ r ≡ spread (placed v k) ⌝ }
+fn placement_cost(placements: &[u8; 356], k: usize, v: &[i64; 16]) -> u64
+    requires { ⌜ (now placements ≡ placementTable) × (k < 89) × Within (2 ^ 40) (now v) ⌝ }
+    ensures { λ r. ⌜ r ≡ spread (placed (now (v .entry)) k) ⌝ }
 {
     let a = placed_cell(placements, k * 4);
     let b = placed_cell(placements, k * 4 + 1);
@@ -59,7 +59,7 @@ fn placement_costs(placements: &[u8; 356], v: [i64; 16]) -> [u64; 89]
     let mut costs = [0u64; 89];
     let mut k: usize = 0;
     while k < 89 {
-        costs[k] = placement_cost(placements, k, v);
+        costs[k] = placement_cost(placements, k, &v);
         k += 1;
     }
     costs

@@ -48,42 +48,42 @@ placed-cell-requires-4 c κs = search needs
 mul-spread-of : tie.Need-mul-spread-of
 mul-spread-of c = search needs
 
-array-copy-out-spread-of : tie.Need-array-copy-out-spread-of
-array-copy-out-spread-of c = search needs
+element-copy-out-spread-of : tie.Need-element-copy-out-spread-of
+element-copy-out-spread-of c = search needs
 
 mul-spread-of-2 : tie.Need-mul-spread-of-2
 mul-spread-of-2 c = search needs
 
-array-copy-out-spread-of-2 : tie.Need-array-copy-out-spread-of-2
-array-copy-out-spread-of-2 c = search needs
+element-copy-out-spread-of-2 : tie.Need-element-copy-out-spread-of-2
+element-copy-out-spread-of-2 c = search needs
 
 mul-spread-of-3 : tie.Need-mul-spread-of-3
 mul-spread-of-3 c = search needs
 
-array-copy-out-spread-of-3 : tie.Need-array-copy-out-spread-of-3
-array-copy-out-spread-of-3 c = search needs
+element-copy-out-spread-of-3 : tie.Need-element-copy-out-spread-of-3
+element-copy-out-spread-of-3 c = search needs
 
 mul-spread-of-4 : tie.Need-mul-spread-of-4
 mul-spread-of-4 c = search needs
 
-array-copy-out-spread-of-4 : tie.Need-array-copy-out-spread-of-4
-array-copy-out-spread-of-4 c = search needs
+element-copy-out-spread-of-4 : tie.Need-element-copy-out-spread-of-4
+element-copy-out-spread-of-4 c = search needs
 
 spread-of-requires : tie.Need-spread-of-requires
 spread-of-requires c κs =
     let a = c .before .before .before .before in
     let s = a .before .before .before .before in (
-      small-within (s .args .t3) (s .pre .2) _ (a .before .before .before .placed-cell .ensures .1),
-      small-within (s .args .t3) (s .pre .2) _ (a .before .before .placed-cell2 .ensures .1),
-      small-within (s .args .t3) (s .pre .2) _ (a .before .placed-cell3 .ensures .1),
-      small-within (s .args .t3) (s .pre .2) _ (a .placed-cell4 .ensures .1),
+      small-within (s .args .v .now) (s .pre .2) _ (a .before .before .before .placed-cell .ensures .1),
+      small-within (s .args .v .now) (s .pre .2) _ (a .before .before .placed-cell2 .ensures .1),
+      small-within (s .args .v .now) (s .pre .2) _ (a .before .placed-cell3 .ensures .1),
+      small-within (s .args .v .now) (s .pre .2) _ (a .placed-cell4 .ensures .1),
     )
 
 returns : tie.Need-returns
 returns c =
     let a = c .before .before .before .before .before in
     let s = a .before .before .before .before in
-    let v = s .args .t3 in
+    let v = s .args .v .now in
     let k = s .args .k in
     let first : k * 4 ≡ k * 4 + 0 = omega arith in
     c .spread-of .ensures
@@ -110,12 +110,12 @@ placement-cost-spec =
     add-placed-cell-3
     placed-cell-requires-4
     mul-spread-of
-    array-copy-out-spread-of
+    element-copy-out-spread-of
     mul-spread-of-2
-    array-copy-out-spread-of-2
+    element-copy-out-spread-of-2
     mul-spread-of-3
-    array-copy-out-spread-of-3
+    element-copy-out-spread-of-3
     mul-spread-of-4
-    array-copy-out-spread-of-4
+    element-copy-out-spread-of-4
     spread-of-requires
     returns)
