@@ -1,23 +1,21 @@
 -- The checks of keep and threshold, by what their tests find. Assumes nothing.
-use mathlib.Core.Path.{_≡_, refl, sym, ap, _∙_, subst}
-use mathlib.Core.Bool.{Bool, true, false, not}
+use mathlib.Core.Path.{_≡_, ap, _∙_}
+use mathlib.Core.Bool.{true, false}
 use mathlib.Core.List.{List}
 use Prim.Native.Nat.{ℕ, _*_, _-_, _^_, _<_, _≤_}
-use native.Mathlib.Omega.{arith}
 use borrow.Author.Tests.{eq-eqb, ne-eqb}
-use lib.Dec.{ltb}
 use lib.IntN.{ℤ}
 use lib.ListN.{length}
-use Rattle.refusals.specs.Refusal.{numberOf, countedOf}
+use Rattle.refusals.specs.Refusal.{numberOf}
 use Rattle.refusals.specs.declared.Refusal.{Refusal}
 use Rattle.refusals.specs.declared.Refusal.the-variants.{Side, Depth, Frame, Coefficient, Quota, Threshold}
 use Rattle.refusals.specs.declared.Counted.the-variants.{Count, Refused}
 use Rattle.refusals.proofs.After.{unchanged}
 use Rattle.integers.proofs.Tests.{true-at, false-at}
-use Rattle.pyramid.specs.Sides.{isSide, isDepth, isPlane}
+use Rattle.pyramid.specs.Sides.{isSide, isDepth}
 use Rattle.pyramid.specs.Ranges.{inRange}
 use Rattle.pyramid.specs.Slices.{imageOf}
-use Rattle.quota.specs.Quota.{ranks, keptOf, cutOf, entriesOf}
+use Rattle.quota.specs.Quota.{ranks, entriesOf}
 use Rattle.places.proofs.Sides.{passed}
 use Rattle.keeping.specs.Sifting.{Ready, above, Limit, Sifted}
 use Rattle.keeping.specs.Entries.{quotaLimit, keepRefusal, Kept, cutRefusal, Cut}

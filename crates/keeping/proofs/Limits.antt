@@ -1,15 +1,14 @@
 -- The rank at which keep begins to drop entries, and the threshold as such a rank: a pass by them leaves what keep and threshold leave. Assumes nothing.
-use mathlib.Core.Path.{_≡_, refl, sym, ap, _∙_, subst, subst⁻¹}
+use mathlib.Core.Path.{_≡_, refl, sym, ap, _∙_}
 use mathlib.Core.Logic.{_⊎_, inl, inr}
-use mathlib.Core.Bool.{Bool, true, false, not, cond, _&&_, _||_}
-use mathlib.Core.List.{List, [], _∷_}
-use Prim.Native.Nat.{ℕ, zero, suc, _+_, _*_, _-_, _/_, _^_, _<_, _≤_}
+use mathlib.Core.Bool.{Bool, true, false, cond, _&&_, _||_}
+use mathlib.Core.List.{List}
+use Prim.Native.Nat.{ℕ, zero, suc, _+_, _-_, _<_, _≤_}
 use native.Mathlib.Omega.{arith}
 use native.Mathlib.Decide.{decLt}
-use lib.Dec.{T, eqb, ltb, leb}
+use lib.Dec.{eqb, ltb}
 use lib.ListN.{length, getD}
-use Rattle.integers.specs.Sum.{Σℕ}
-use Rattle.integers.proofs.Sums.{Σℕ-cong, Σℕ-add, Σℕ-zero, Σℕ-bound}
+use Rattle.integers.proofs.Sums.{Σℕ-cong, Σℕ-add, Σℕ-zero}
 use Rattle.integers.proofs.Tests.{true-at, false-at}
 use borrow.Author.Tests.{eq-eqb, ne-eqb}
 use Rattle.quota.specs.Quota.{stays}

@@ -1,18 +1,18 @@
 -- A pass along the tetrolet entries that stores each entry again or 0: what it has stored, and that all stores together are a selection. Assumes nothing.
 use mathlib.Core.Path.{_≡_, refl, sym, ap, _∙_, subst, subst⁻¹}
 use mathlib.Core.Logic.{_⊎_, inl, inr}
-use mathlib.Core.Bool.{Bool, true, false, not, cond, _&&_, _||_}
-use mathlib.Core.List.{List, [], _∷_}
+use mathlib.Core.Bool.{Bool, true, false, cond}
+use mathlib.Core.List.{List, _∷_}
 use Prim.Native.Nat.{ℕ, zero, suc, _+_, _*_, _-_, _/_, _%_, _^_, _<_, _≤_}
 use native.Mathlib.Omega.{arith}
 use native.Mathlib.Nat.{zero-mul}
 use lib.Dec.{T, eqb, ltb, ltb→lt, eqb→eq}
 use lib.IntN.{ℤ, pos, natAbs}
-use lib.ListN.{length, getD, drop, set, length-drop}
+use lib.ListN.{length, getD, drop, length-drop}
 use lib.Seq.{drop-cons}
 use Rattle.integers.specs.Sum.{Σℕ}
 use Rattle.integers.proofs.Sums.{Σℕ-cong}
-use Rattle.integers.proofs.Tests.{true-at, false-at, is-false, both-left}
+use Rattle.integers.proofs.Tests.{true-at, is-false, both-left}
 use Rattle.integers.proofs.Index.{index-bound, column-row, column-col}
 use Rattle.slices.specs.Stores.{scatter}
 use Rattle.slices.proofs.Stores.{scatter-length, scatter-out, scatter-in}
@@ -27,12 +27,12 @@ use Rattle.pyramid.proofs.Slices.{image-slice, slice-length, slice-of}
 use Rattle.pyramid.proofs.Whole.{ranged}
 use Rattle.places.specs.declared.walk.Walk.{Walk}
 use Rattle.places.specs.Walk.{entriesLeft, entryOf, indexIn}
-use Rattle.places.proofs.Sides.{Passed, passed}
-use Rattle.quota.specs.Quota.{rankOf, ranks, select, isZero, entries, entriesOf}
+use Rattle.places.proofs.Sides.{passed}
+use Rattle.quota.specs.Quota.{ranks, select, isZero, entriesOf}
 use Rattle.quota.proofs.Select.{select-places, select-low}
 use Rattle.quota.proofs.Flat.{entries-cong}
-use Rattle.quota.proofs.Demand.{q-at, q-length}
-use Rattle.keeping.specs.Sifting.{Ready, ties, sifts}
+use Rattle.quota.proofs.Demand.{q-at}
+use Rattle.keeping.specs.Sifting.{Ready, sifts}
 
 -- where the place with the number k stands, what is stored there, and what the first m stores leave
 abbrev pub spot : ℕ → ℕ → ℕ → ℕ

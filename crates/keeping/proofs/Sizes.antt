@@ -1,5 +1,5 @@
 -- How large ranks are, and how many tetrolet entries there are. Assumes nothing.
-use mathlib.Core.Path.{_≡_, refl, sym, ap, _∙_, subst}
+use mathlib.Core.Path.{_≡_}
 use Prim.Native.Nat.{ℕ, zero, suc, _+_, _*_, _-_, _/_, _%_, _^_, _<_, _≤_}
 use native.Mathlib.Nat.{mul-le-mul, pow-succ', pow-le-pow-left, pow-le-pow-right, one-le-pow, div-eq-of-eq-mul-right, le-refl}
 use native.Mathlib.Omega.{arith}

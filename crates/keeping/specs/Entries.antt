@@ -21,9 +21,7 @@ keepRefusal side levels plane quota =
     refuseIf (not (isSide side)) 1
     (refuseIf (not (isDepth levels side side)) 2
     (refuseIf (not (isPlane side side plane)) 3
-    (refuseIf (not (inRange levels side side (imageOf side plane))) 6
-    (refuseIf (ltb (quotaLimit side levels) quota) 7
-    0))))
+    (refuseIf (not (inRange levels side side (imageOf side plane))) 6 (refuseIf (ltb (quotaLimit side levels) quota) 7 0))))
 
 -- n is the number that the call is answered with, left the count that it gives; plane′ is what the plane holds after the call. "Both give the number of tetrolet entries left that are not zero".
 pub record Kept (side levels : ℕ) (plane plane′ : List ℤ) (quota n left : ℕ) : Type 0 where
@@ -37,9 +35,7 @@ cutRefusal side levels plane limit =
     refuseIf (not (isSide side)) 1
     (refuseIf (not (isDepth levels side side)) 2
     (refuseIf (not (isPlane side side plane)) 3
-    (refuseIf (not (inRange levels side side (imageOf side plane))) 6
-    (refuseIf (ltb 1000000 limit) 8
-    0))))
+    (refuseIf (not (inRange levels side side (imageOf side plane))) 6 (refuseIf (ltb 1000000 limit) 8 0))))
 
 pub record Cut (side levels : ℕ) (plane plane′ : List ℤ) (limit n left : ℕ) : Type 0 where
   pub number : n ≡ cutRefusal side levels plane limit

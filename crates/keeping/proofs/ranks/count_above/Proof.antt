@@ -1,8 +1,8 @@
 -- `keeping::ranks::count_above` meets its contract: what is counted up to the place of the walk. Assumes nothing.
-use mathlib.Core.Path.{_≡_, refl, sym, ap, _∙_, subst, subst⁻¹}
-use mathlib.Core.Bool.{Bool, cond}
+use mathlib.Core.Path.{_≡_, refl, sym, ap, _∙_, subst⁻¹}
+use mathlib.Core.Bool.{cond}
 use mathlib.Core.Logic.{⊎-elim}
-use Prim.Native.Nat.{ℕ, _+_, _*_, _-_, _^_, _<_, _≤_}
+use Prim.Native.Nat.{ℕ, _+_, _*_, _-_, _^_, _≤_}
 use native.Mathlib.Omega.{arith}
 use lib.Dec.{ltb}
 use lib.IntN.{ℤ, pos, natAbs}
@@ -13,16 +13,9 @@ use Rattle.integers.proofs.Tests.{true-at, false-at}
 use Rattle.pyramid.specs.Slices.{imageOf}
 use Rattle.places.specs.Walk.{entriesLeft}
 use Rattle.quota.specs.Quota.{ranks}
-use Rattle.keeping.proofs.Passing.{spot, Here}
 use Rattle.keeping.proofs.Turns.{Counting, at-start, here-now, count-step, count-small, count-all}
 use Rattle.keeping.proofs.ranks.count_above.Statement.{statement}
 use Rattle.keeping.proofs.ranks.count_above.Tie as tie
-use Rattle.keeping.proofs.ranks.count_above.Reads as reads
-use Rattle.keeping.proofs.ranks.count_above.Lts as lts
-use Rattle.keeping.proofs.ranks.rank_of.Reads as rank-of-reads
-use Rattle.places.proofs.checks.index_of.Reads as index-of-reads
-use Rattle.places.proofs.walk.first_tetrolet.Reads as first-tetrolet-reads
-use Rattle.places.proofs.walk.step.Reads as step-reads
 
 abbrev Inv-loop : tie.InvT-loop
 Inv-loop side levels plane t total₀ k₀ total k = Counting levels side t plane total k

@@ -1,18 +1,14 @@
 -- `keeping::ranks::limit_of` meets its contract: at most `quota` ranks are above `high`, and more below `low`. Assumes nothing.
-use mathlib.Core.Path.{_≡_, refl, sym, ap, _∙_, subst}
+use mathlib.Core.Path.{_≡_, refl, ap, subst}
 use mathlib.Core.Logic.{_⊎_, inl, inr}
 use Prim.Native.Nat.{ℕ, _+_, _-_, _/_, _<_, _≤_}
 use native.Mathlib.Omega.{arith}
-use borrow.Author.Needs.{needs}
 use Rattle.pyramid.specs.Slices.{imageOf}
 use Rattle.quota.specs.Quota.{ranks}
-use Rattle.keeping.specs.Sifting.{above, Limit}
+use Rattle.keeping.specs.Sifting.{above}
 use Rattle.keeping.proofs.Turns.{above-high}
 use Rattle.keeping.proofs.ranks.limit_of.Statement.{statement}
 use Rattle.keeping.proofs.ranks.limit_of.Tie as tie
-use Rattle.keeping.proofs.ranks.limit_of.Reads as reads
-use Rattle.keeping.proofs.ranks.limit_of.Lts as lts
-use Rattle.keeping.proofs.ranks.count_above.Reads as count-above-reads
 
 abbrev Inv-loop : tie.InvT-loop
 Inv-loop side levels plane quota low₀ high₀ low high =

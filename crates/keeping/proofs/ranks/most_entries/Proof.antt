@@ -1,6 +1,6 @@
 -- `keeping::ranks::most_entries` meets its contract. Assumes nothing.
-use mathlib.Core.Path.{_≡_, refl, sym, ap, _∙_}
-use Prim.Native.Nat.{ℕ, _*_, _-_, _/_, _^_, _<_, _≤_}
+use mathlib.Core.Path.{ap, _∙_}
+use Prim.Native.Nat.{ℕ, _*_, _-_, _/_}
 use native.Mathlib.Nat.{one-le-pow, div-le-self}
 use native.Mathlib.Omega.{arith}
 use Rattle.places.proofs.Sides.{Passed, passed}

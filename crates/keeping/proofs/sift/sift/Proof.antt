@@ -1,26 +1,16 @@
 -- `keeping::sift::sift` meets its contract: what is stored up to the place of the walk. Assumes nothing.
-use mathlib.Core.Path.{_≡_, refl, sym, ap, _∙_, subst, subst⁻¹}
-use mathlib.Core.Bool.{Bool, cond}
-use Prim.Native.Nat.{ℕ, _+_, _*_, _-_, _^_, _<_, _≤_}
+use mathlib.Core.Path.{refl, sym, ap, _∙_, subst⁻¹}
+use Prim.Native.Nat.{_*_, _-_, _^_, _≤_}
 use native.Mathlib.Omega.{arith}
-use lib.IntN.{ℤ, pos, natAbs}
-use lib.ListN.{length, getD, length-set}
+use lib.IntN.{ℤ, natAbs}
+use lib.ListN.{length}
 use borrow.Author.Needs.{needs}
 use Rattle.integers.proofs.Signs.{kept}
 use Rattle.places.specs.Walk.{entriesLeft}
-use Rattle.keeping.proofs.Passing.{spot, Here}
 use Rattle.keeping.proofs.Sizes.{area-small}
 use Rattle.keeping.proofs.Turns.{Sifting, here-now, sift-start, sift-long, sift-small, sift-read, sift-step, sift-all}
 use Rattle.keeping.proofs.sift.sift.Statement.{statement}
 use Rattle.keeping.proofs.sift.sift.Tie as tie
-use Rattle.keeping.proofs.sift.sift.Reads as reads
-use Rattle.keeping.proofs.sift.sift.Lts as lts
-use Rattle.keeping.proofs.ranks.rank_of.Reads as rank-of-reads
-use Rattle.keeping.proofs.sift.stored.Reads as stored-reads
-use Rattle.keeping.proofs.tally.Tally.entry.Reads as entry-reads
-use Rattle.places.proofs.checks.index_of.Reads as index-of-reads
-use Rattle.places.proofs.walk.first_tetrolet.Reads as first-tetrolet-reads
-use Rattle.places.proofs.walk.step.Reads as step-reads
 
 abbrev Inv-loop : tie.InvT-loop
 Inv-loop side levels plane₀ limit ties tally₀ k₀ plane tally k = Sifting levels side limit ties plane₀ plane tally k

@@ -1,5 +1,5 @@
 -- `keeping::sift::stored` meets its contract. Assumes nothing.
-use mathlib.Core.Path.{_≡_, sym, ap, _∙_}
+use mathlib.Core.Path.{sym, ap, _∙_}
 use mathlib.Core.Bool.{Bool, cond}
 use lib.IntN.{pos}
 use mir.Facts.{toZ-ofZ}

@@ -1,5 +1,5 @@
 -- `keeping::tally::Tally::entry` meets its contract: each return by its tests. Assumes nothing.
-use mathlib.Core.Path.{_≡_, subst⁻¹}
+use mathlib.Core.Path.{subst⁻¹}
 use native.Mathlib.Omega.{arith}
 use borrow.Author.Needs.{needs}
 use Rattle.keeping.specs.declared.tally.Tally.{Tally}
