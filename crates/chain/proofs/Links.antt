@@ -8,7 +8,7 @@ use borrow.Author.Tests.{eq-eqb, eqb-true}
 use lib.Dec.{T, leb→le}
 use lib.IntN.{ℤ, pos}
 use lib.ListN.{length, getD, replicate, length-replicate}
-use Rattle.refusals.specs.Refusal.{numberOf, refuseIf, afterCall}
+use Rattle.refusals.specs.Refusal.{numberOf, answerOf, countedOf, countOf, refuseIf, afterCall}
 use Rattle.refusals.specs.declared.Refusal.{Refusal}
 use Rattle.refusals.specs.declared.Answer.{Answer}
 use Rattle.refusals.specs.declared.Counted.{Counted}
@@ -113,9 +113,9 @@ module _ (side levels quota : ℕ) (samples : List ℕ) (plane : List ℤ) (cove
   went : {A : Type 0} {n : ℕ} → 0 ≡ n → (new old : A) → afterCall n new old ≡ new
   went e new old = ap (λ (n : ℕ). afterCall n new old) (sym e)
 
-  pub first-refused : {a : Answer} (x : Refusal) {plane′ : List ℤ} {coverings′ : List ℕ} {scratch′ : List ℤ} → a ≡ Refused x → Decomposed side levels samples plane plane′ coverings coverings′ scratch scratch′ a
-      → Chained side levels quota samples plane plane′ coverings coverings′ numerators numerators restored restored scratch scratch′ (Rejected x)
-  first-refused x {plane′} {coverings′} {scratch′} w g = let h = subst (λ (a : Answer). Decomposed side levels samples plane plane′ coverings coverings′ scratch scratch′ a) w g in record {
+  pub first-refused : {a : Answer} (x : Refusal) {plane′ : List ℤ} {coverings′ : List ℕ} {scratch′ : List ℤ} → a ≡ Refused x → Decomposed side levels samples plane plane′ coverings coverings′ scratch scratch′ (answerOf a)
+      → Chained side levels quota samples plane plane′ coverings coverings′ numerators numerators restored restored scratch scratch′ (numberOf x) 0
+  first-refused x {plane′} {coverings′} {scratch′} w g = let h = subst (λ (a : Answer). Decomposed side levels samples plane plane′ coverings coverings′ scratch scratch′ (answerOf a)) w g in record {
     number = h .number ∙ sym (stopped x (h .number) _ d);
     planes = h .planes ∙ sym (unchanged x p plane) ∙ sym (stopped x (h .number) _ plane);
     covers = h .covers ∙ sym (unchanged x cs coverings) ∙ sym (stopped x (h .number) _ coverings);
@@ -128,19 +128,19 @@ module _ (side levels quota : ℕ) (samples : List ℕ) (plane : List ℤ) (cove
   }
 
   -- ---- accepted by the first call
-  module _ {a : Answer} {plane₁ : List ℤ} {coverings₁ : List ℕ} {scratch₁ : List ℤ} (w₁ : a ≡ Done) (g₁ : Decomposed side levels samples plane plane₁ coverings coverings₁ scratch scratch₁ a) where
-    h : Decomposed side levels samples plane plane₁ coverings coverings₁ scratch scratch₁ Done
-    h = subst (λ (a : Answer). Decomposed side levels samples plane plane₁ coverings coverings₁ scratch scratch₁ a) w₁ g₁
+  module _ {a : Answer} {plane₁ : List ℤ} {coverings₁ : List ℕ} {scratch₁ : List ℤ} (w₁ : a ≡ Done) (g₁ : Decomposed side levels samples plane plane₁ coverings coverings₁ scratch scratch₁ (answerOf a)) where
+    h : Decomposed side levels samples plane plane₁ coverings coverings₁ scratch scratch₁ 0
+    h = subst (λ (a : Answer). Decomposed side levels samples plane plane₁ coverings coverings₁ scratch scratch₁ (answerOf a)) w₁ g₁
 
     keep-number : keepRefusal side levels plane₁ quota ≡ k
     keep-number = ap (λ (l : List ℤ). keepRefusal side levels l quota) (h .planes)
 
-    pub second-refused : {b : Counted} (x : Refusal) {plane₂ : List ℤ} → b ≡ Rejected x → Kept side levels plane₁ plane₂ quota b
-        → Chained side levels quota samples plane plane₂ coverings coverings₁ numerators numerators restored restored scratch scratch₁ b
+    pub second-refused : {b : Counted} (x : Refusal) {plane₂ : List ℤ} → b ≡ Rejected x → Kept side levels plane₁ plane₂ quota (countedOf b) (countOf b)
+        → Chained side levels quota samples plane plane₂ coverings coverings₁ numerators numerators restored restored scratch scratch₁ (countedOf b) (countOf b)
     second-refused x {plane₂} w o =
-        let g = subst (λ (b : Counted). Kept side levels plane₁ plane₂ quota b) w o in
+        let g = subst (λ (b : Counted). Kept side levels plane₁ plane₂ quota (countedOf b) (countOf b)) w o in
         let e = g .number ∙ keep-number in
-        subst⁻¹ (λ (b : Counted). Chained side levels quota samples plane plane₂ coverings coverings₁ numerators numerators restored restored scratch scratch₁ b) w (
+        subst⁻¹ (λ (b : Counted). Chained side levels quota samples plane plane₂ coverings coverings₁ numerators numerators restored restored scratch scratch₁ (countedOf b) (countOf b)) w (
         record {
           number = e ∙ sym (stopped x e r k) ∙ sym (went (h .number) _ d);
           planes = g .planes ∙ sym (unchanged x _ plane₁) ∙ h .planes ∙ sym (stopped x e q p) ∙ sym (went (h .number) _ plane);
@@ -154,9 +154,9 @@ module _ (side levels quota : ℕ) (samples : List ℕ) (plane : List ℤ) (cove
         })
 
     -- ---- accepted by the second call
-    module _ {b : Counted} (left : ℕ) {plane₂ : List ℤ} (w₂ : b ≡ Count left) (g₂ : Kept side levels plane₁ plane₂ quota b) where
-      g : Kept side levels plane₁ plane₂ quota (Count left)
-      g = subst (λ (b : Counted). Kept side levels plane₁ plane₂ quota b) w₂ g₂
+    module _ {b : Counted} (left : ℕ) {plane₂ : List ℤ} (w₂ : b ≡ Count left) (g₂ : Kept side levels plane₁ plane₂ quota (countedOf b) (countOf b)) where
+      g : Kept side levels plane₁ plane₂ quota 0 left
+      g = subst (λ (b : Counted). Kept side levels plane₁ plane₂ quota (countedOf b) (countOf b)) w₂ g₂
 
       kept-plane : plane₂ ≡ q
       kept-plane = g .planes ∙ ap (keptOf levels side side quota) (h .planes)
@@ -173,9 +173,9 @@ module _ (side levels quota : ℕ) (samples : List ℕ) (plane : List ℤ) (cove
       plane-is : plane₂ ≡ afterCall d (afterCall k q p) plane
       plane-is = kept-plane ∙ sym (went keep-zero q p) ∙ sym (went (h .number) _ plane)
 
-      pub third-refused : {a : Answer} (x : Refusal) {numerators′ : List ℤ} {restored′ : List ℕ} {scratch₂ : List ℤ} → a ≡ Refused x → Restored side levels plane₂ coverings₁ numerators numerators′ restored restored′ scratch₁ scratch₂ a
-          → Chained side levels quota samples plane plane₂ coverings coverings₁ numerators numerators′ restored restored′ scratch scratch₂ (Rejected x)
-      third-refused x {numerators′} {restored′} {scratch₂} w o = let t = subst (λ (a : Answer). Restored side levels plane₂ coverings₁ numerators numerators′ restored restored′ scratch₁ scratch₂ a) w o in record {
+      pub third-refused : {a : Answer} (x : Refusal) {numerators′ : List ℤ} {restored′ : List ℕ} {scratch₂ : List ℤ} → a ≡ Refused x → Restored side levels plane₂ coverings₁ numerators numerators′ restored restored′ scratch₁ scratch₂ (answerOf a)
+          → Chained side levels quota samples plane plane₂ coverings coverings₁ numerators numerators′ restored restored′ scratch scratch₂ (numberOf x) 0
+      third-refused x {numerators′} {restored′} {scratch₂} w o = let t = subst (λ (a : Answer). Restored side levels plane₂ coverings₁ numerators numerators′ restored restored′ scratch₁ scratch₂ (answerOf a)) w o in record {
         number = t .number ∙ restore-number ∙ all-three;
         planes = plane-is;
         covers = h .covers ∙ sym (went (h .number) _ coverings);
@@ -187,10 +187,10 @@ module _ (side levels quota : ℕ) (samples : List ℕ) (plane : List ℤ) (cove
         demand = λ z. absurd (never x z);
       }
 
-      pub all-accepted : {a : Answer} {numerators′ : List ℤ} {restored′ : List ℕ} {scratch₂ : List ℤ} → a ≡ Done → Restored side levels plane₂ coverings₁ numerators numerators′ restored restored′ scratch₁ scratch₂ a
-          → Chained side levels quota samples plane plane₂ coverings coverings₁ numerators numerators′ restored restored′ scratch scratch₂ (Count left)
+      pub all-accepted : {a : Answer} {numerators′ : List ℤ} {restored′ : List ℕ} {scratch₂ : List ℤ} → a ≡ Done → Restored side levels plane₂ coverings₁ numerators numerators′ restored restored′ scratch₁ scratch₂ (answerOf a)
+          → Chained side levels quota samples plane plane₂ coverings coverings₁ numerators numerators′ restored restored′ scratch scratch₂ 0 left
       all-accepted {numerators′ = numerators′} {restored′ = restored′} {scratch₂ = scratch₂} w o =
-          let t = subst (λ (a : Answer). Restored side levels plane₂ coverings₁ numerators numerators′ restored restored′ scratch₁ scratch₂ a) w o in
+          let t = subst (λ (a : Answer). Restored side levels plane₂ coverings₁ numerators numerators′ restored restored′ scratch₁ scratch₂ (answerOf a)) w o in
           let f = found (sym (h .number)) in
           let z = passed side levels (f .sided) (f .deep) in
           record {

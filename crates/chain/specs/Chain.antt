@@ -5,8 +5,7 @@ use mathlib.Core.List.{List}
 use Prim.Native.Nat.{ℕ, _*_}
 use lib.IntN.{ℤ, pos}
 use lib.ListN.{length, replicate}
-use Rattle.refusals.specs.Refusal.{countedOf, countOf, afterCall}
-use Rattle.refusals.specs.declared.Counted.{Counted}
+use Rattle.refusals.specs.Refusal.{afterCall}
 use Rattle.pyramid.specs.Slices.{coversOf, planeOf, numeratorsOf, samplesOf}
 use Rattle.coder.specs.Entries.{decomposeRefusal, restoreRefusal}
 use Rattle.quota.specs.Quota.{keptOf, entriesOf}
@@ -17,13 +16,13 @@ use Rattle.keeping.specs.Entries.{keepRefusal}
 abbrev pub thenCall : ℕ → ℕ → ℕ
 thenCall first second = afterCall first second first
 
--- A name with ′ is what the slice holds after the chain.
-pub record Chained (side levels quota : ℕ) (samples : List ℕ) (plane plane′ : List ℤ) (coverings coverings′ : List ℕ) (numerators numerators′ : List ℤ) (restored restored′ : List ℕ) (scratch scratch′ : List ℤ) (answer : Counted) : Type 0 where
+-- The number answered is n, and `left` the count that comes with it, 0 where the chain is refused. A name with ′ is what the slice holds after the chain.
+pub record Chained (side levels quota : ℕ) (samples : List ℕ) (plane plane′ : List ℤ) (coverings coverings′ : List ℕ) (numerators numerators′ : List ℤ) (restored restored′ : List ℕ) (scratch scratch′ : List ℤ) (n left : ℕ) : Type 0 where
   -- "decomposing, then Keep on the plane as left, then restoring what Keep left with the coverings that decomposing gave, the picture's sides and R the
   -- same throughout"
   pub number :
       let p = planeOf levels side side samples in
-      countedOf answer
+      n
       ≡ thenCall (decomposeRefusal side levels samples plane coverings scratch)
       (thenCall (keepRefusal side levels p quota)
       (restoreRefusal side levels (keptOf levels side side quota p) (coversOf levels side side samples) numerators restored (replicate (side * side) (pos 0))))
@@ -33,12 +32,12 @@ pub record Chained (side levels quota : ℕ) (samples : List ℕ) (plane plane�
       plane′ ≡ afterCall (decomposeRefusal side levels samples plane coverings scratch) (afterCall (keepRefusal side levels p quota) (keptOf levels side side quota p) p) plane
   pub covers : coverings′ ≡ afterCall (decomposeRefusal side levels samples plane coverings scratch) (coversOf levels side side samples) coverings
   pub zeros : scratch′ ≡ afterCall (decomposeRefusal side levels samples plane coverings scratch) (replicate (side * side) (pos 0)) scratch
-  pub values : numerators′ ≡ afterCall (countedOf answer) (numeratorsOf levels side side coverings′ plane′) numerators
-  pub image : restored′ ≡ afterCall (countedOf answer) (samplesOf levels side side coverings′ plane′) restored
-  pub counts : countOf answer ≡ afterCall (countedOf answer) (entriesOf levels side side plane′) 0
+  pub values : numerators′ ≡ afterCall n (numeratorsOf levels side side coverings′ plane′) numerators
+  pub image : restored′ ≡ afterCall n (samplesOf levels side side coverings′ plane′) restored
+  pub counts : left ≡ afterCall n (entriesOf levels side side plane′) 0
   -- where decomposing and Keep are accepted, so is restoring into slices of the right length
   pub accepted :
       decomposeRefusal side levels samples plane coverings scratch ≡ 0 → keepRefusal side levels (planeOf levels side side samples) quota ≡ 0
-      → length numerators ≡ side * side → length restored ≡ side * side → countedOf answer ≡ 0
+      → length numerators ≡ side * side → length restored ≡ side * side → n ≡ 0
   -- the third demand of these slices; the numerators of the kept plane are those that restoring gave, by `values`
-  pub demand : countedOf answer ≡ 0 → Demand levels side side quota samples coverings′ (planeOf levels side side samples) plane′
+  pub demand : n ≡ 0 → Demand levels side side quota samples coverings′ (planeOf levels side side samples) plane′

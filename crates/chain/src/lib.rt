@@ -1,6 +1,7 @@
 // The chain of the third demand: decompose, then keep on the plane as left, then restore what keep left, with the coverings that decomposing gave and the
 // side and the levels the same throughout. What it answers and leaves, and the third demand of its own slices, is in specs/Chain.antt.
 ghost use mathlib.Core.Path.{_≡_};
+ghost use Rattle.refusals.specs.Refusal.{countedOf, countOf};
 ghost use Rattle.chain.specs.Chain.{Chained};
 use refusals::Answer;
 use refusals::Counted;
@@ -18,7 +19,7 @@ pub fn decompose_keep_restore(
     restored: &mut [u16],
     scratch: &mut [i64],
 ) -> Counted
-    ensures { λ r. ⌜ Chained side levels quota (now (samples .entry)) (now (plane .entry)) (now (plane .exit)) (now (coverings .entry)) (now (coverings .exit)) (now (numerators .entry)) (now (numerators .exit)) (now (restored .entry)) (now (restored .exit)) (now (scratch .entry)) (now (scratch .exit)) r ⌝ }
+    ensures { λ r. ⌜ Chained side levels quota (now (samples .entry)) (now (plane .entry)) (now (plane .exit)) (now (coverings .entry)) (now (coverings .exit)) (now (numerators .entry)) (now (numerators .exit)) (now (restored .entry)) (now (restored .exit)) (now (scratch .entry)) (now (scratch .exit)) (countedOf r) (countOf r) ⌝ }
 {
     let first = coder::decompose(side, levels, samples, plane, coverings, scratch);
     if let Answer::Refused(r) = first {
