@@ -52,14 +52,14 @@ fn placement_cost(placements: &[u8; 356], k: usize, v: &[i64; 16]) -> u64
 }
 
 // The same for every placement.
-fn placement_costs(placements: &[u8; 356], v: [i64; 16]) -> [u64; 89]
-    requires { ⌜ (now placements ≡ placementTable) × Within (2 ^ 40) v ⌝ }
-    ensures { λ r. ⌜ r ≡ spreads v ⌝ }
+fn placement_costs(placements: &[u8; 356], v: &[i64; 16]) -> [u64; 89]
+    requires { ⌜ (now placements ≡ placementTable) × Within (2 ^ 40) (now v) ⌝ }
+    ensures { λ r. ⌜ r ≡ spreads (now (v .entry)) ⌝ }
 {
     let mut costs = [0u64; 89];
     let mut k: usize = 0;
     while k < 89 {
-        costs[k] = placement_cost(placements, k, &v);
+        costs[k] = placement_cost(placements, k, v);
         k += 1;
     }
     costs
@@ -122,7 +122,7 @@ pub fn choose(placements: &[u8; 356], fours: &[u8; 468], v: [i64; 16], usage: Us
     requires { ⌜ (now placements ≡ placementTable) × (now fours ≡ fourTable) × Within (2 ^ 40) v ⌝ }
     ensures { λ r. ⌜ Number r × ((earlier : List ℕ) → usage .counts ≡ countsOf earlier → r ≡ pick earlier (at v)) ⌝ }
 {
-    let costs = placement_costs(placements, v);
+    let costs = placement_costs(placements, &v);
     let counts = usage.counts;
     let mut best = rated(&costs, fours, &counts, 1);
     let mut n: u8 = 2;

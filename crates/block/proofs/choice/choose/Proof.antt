@@ -20,7 +20,7 @@ abbrev μ-loop : tie.MeasureT-loop
 μ-loop placements fours costs counts best₀ n₀ best n = 118 - n
 
 low : (c : tie.After-placement-costs Inv-loop μ-loop) → Low (c .placement-costs .result)
-low c k l = rw (c .placement-costs .ensures) (spreads-low (c .before .args .v) (c .before .pre .2) k l)
+low c k l = rw (c .placement-costs .ensures) (spreads-low (c .before .before .args .t3) (c .before .before .pre .2) k l)
 
 rated-is : {costs counts : List ℕ} {n : ℕ} {r : Candidate} → (r .covering ≡ n) × (r .cost ≡ costFrom costs n) × (r .count ≡ getD counts (n - 1) 0) → Rated costs counts n r
 rated-is q = record { covering = q .0; cost = q .1; count = q .2 }
@@ -29,10 +29,10 @@ placement-costs-requires : tie.Need-placement-costs-requires Inv-loop μ-loop
 placement-costs-requires c κs = search needs
 
 rated-requires : tie.Need-rated-requires Inv-loop μ-loop
-rated-requires c κs = (c .before .before .before .before .pre .1, (omega arith, omega arith), low (c .before .before .before))
+rated-requires c κs = (c .before .before .before .before .before .pre .1, (omega arith, omega arith), low (c .before .before .before))
 
 loop-holds : tie.Need-loop-holds Inv-loop μ-loop
-loop-holds c = (c .before .before .before .before .before .pre .1, low (c .before .before .before .before), best-first (c .rated .result) (rated-is (c .rated .ensures)))
+loop-holds c = (c .before .before .before .before .before .before .pre .1, low (c .before .before .before .before), best-first (c .rated .result) (rated-is (c .rated .ensures)))
 
 rated-requires-2 : tie.Need-rated-requires-2 Inv-loop μ-loop
 rated-requires-2 c κs = let inv = c .before .before .before .loop .inv in (inv .0, (omega (arith, inv .2 .from), omega arith), inv .1)
@@ -57,7 +57,7 @@ returns c =
     let l = c .before in
     let a = l .before .before .before .before .before in
     let p = best-last (l .loop .inv .2) (omega arith) in
-    (p .0, λ earlier e. p .1 (a .before .args .v) earlier (a .placement-costs .ensures) e)
+    (p .0, λ earlier e. p .1 (a .before .before .args .t3) earlier (a .placement-costs .ensures) e)
 
 pub choose-spec : {M : Type 1} → statement M
 choose-spec =

@@ -37,8 +37,8 @@ loop-less c = search needs
 
 loop-again : tie.Need-loop-again Inv-loop μ-loop
 loop-again c =
-    let l = c .before .before .before in
-    let v = l .before .args .t2 in
+    let l = c .before .before in
+    let v = l .before .args .v .now in
     let k = l .loop .k in
     let inv = l .loop .inv in (
       search needs,
@@ -50,7 +50,7 @@ loop-again c =
 returns : tie.Need-returns Inv-loop μ-loop
 returns c =
     let l = c .before in
-    let v = l .before .args .t2 in
+    let v = l .before .args .v .now in
     l .loop .inv .3 ∙ half-end (spreads v) _ (l .loop .k) (spreads-length v) (omega arith)
 
 pub placement-costs-spec : {M : Type 1} → statement M
