@@ -53,7 +53,7 @@ keep-by q K t h n l =
     ∙ sym (stays-threshold q t n l K (h .few) (splits q K t h))
 
 -- no rank is above a bound
-pub above-none : (q : List ℕ) (t : ℕ) → ((m : ℕ) → m < length q → getD q m 0 < t) → above q t ≡ 0
+pub above-none : (q : List ℕ) (t : ℕ) → ((m : ℕ) → m < length q → getD q m 0 ≤ t) → above q t ≡ 0
 above-none q t h = Σℕ-cong (length q) (λ m. cond (ltb t (getD q m 0)) 1 0) (λ m. 0) (λ m l. ap {B = ℕ} (λ (b : Bool). cond b 1 0) (false-at t (getD q m 0) (omega (arith, h m l)))) ∙ Σℕ-zero (length q)
 
 -- at most n of n ranks are t
