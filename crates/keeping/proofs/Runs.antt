@@ -117,19 +117,13 @@ zeros-512 = record { long = length-replicate {A = ℕ} 512 0; zeros = λ j l. ze
     zero-at (suc n) (suc j) = zero-at n j
 
 -- a run of one rank is a limit
-pub one-left : (q : List ℕ) (K base : ℕ) (at : Found) → at .base ≡ base → Inside q K 1 at → Limit q K base
-one-left q K zero at e i = record { few = few; least = inl refl }
+pub one-left : (q : List ℕ) (K : ℕ) (at : Found) → Inside q K 1 at → Limit q K (at .base) (at .over)
+one-left q K at i = record { all = i .over ∙ ap (from q) (next (at .base)); few = i .few; least = go (at .base) (i .least) }
   where
-    few : above q zero ≤ K
-    few = let a = i .over ∙ ap (λ (x : ℕ). from q (x + 1)) e in omega (arith, i .few)
-one-left q K (suc b) at e i = record { few = few; least = go (i .least) }
-  where
-    few : above q (suc b) ≤ K
-    few =
-        let s : suc b + 1 ≡ suc (suc b) = omega arith in
-        let a = i .over ∙ ap (λ (x : ℕ). from q (x + 1)) e ∙ ap (from q) s in
-        omega (arith, i .few)
+    next : (b : ℕ) → b + 1 ≡ suc b
+    next b = omega arith
 
-    go : (at .base ≡ 0) ⊎ (K < from q (at .base)) → (suc b ≡ 0) ⊎ (K < above q (suc b - 1))
-    go (inl z) = absurd (omega arith)
-    go (inr l) = let s : suc b - 1 ≡ b = omega arith in inr (omega (arith, ap (from q) e, ap (above q) s))
+    go : (b : ℕ) → (b ≡ 0) ⊎ (K < from q b) → (b ≡ 0) ⊎ (K < above q (b - 1))
+    go zero h = inl refl
+    go (suc b) (inl z) = absurd (omega arith)
+    go (suc b) (inr l) = let s : suc b - 1 ≡ b = omega arith in inr (omega (arith, ap (above q) s))

@@ -22,7 +22,7 @@ use Rattle.quota.specs.Quota.{ranks, entriesOf}
 use Rattle.quota.proofs.Demand.{q-at, q-length}
 use Rattle.keeping.specs.declared.tally.Tally.{Tally}
 use Rattle.keeping.specs.Tallies.{staysNow, Tallied}
-use Rattle.keeping.specs.Sifting.{Ready, from, inRun, runCount, Small, OneMore, RunCounts, above, ties, sifts, Sifted}
+use Rattle.keeping.specs.Sifting.{Ready, from, inRun, runCount, Small, OneMore, RunCounts, ties, sifts, Sifted}
 use Rattle.keeping.proofs.Limits.{left-over, above-none}
 use Rattle.keeping.proofs.Passing.{spot, value, stores, Here, here, in-range, more-left, unread, stores-all, count-selected, sifted-not-zero}
 use Rattle.keeping.proofs.Sizes.{few-places, rank-small}
@@ -58,32 +58,6 @@ count-few g (suc n) = let a = count-few g n in let b = one (g n) in omega arith
     one : (b : Bool) → cond b 1 0 ≤ 1
     one true = omega arith
     one false = omega arith
-
--- ---- counting
-
-pub record Counting (R n t : ℕ) (p : List ℤ) (total : ℕ) (k : Walk) : Type 0 where
-  pub number : ℕ
-  pub place : At R n k number
-  pub sum : total ≡ Σℕ number (λ m. cond (ltb t (getD (ranks R n n (imageOf n p)) m 0)) 1 0)
-
-module _ (R n t : ℕ) (p : List ℤ) (r : Ready n R p) where
-  pub count-step : (total : ℕ) (k k′ : Walk) (s : Counting R n t p total k) → Stepped n k k′ → (rank : ℕ) → rank ≡ getD (ranks R n n (imageOf n p)) (s .number) 0 → Counting R n t p (total + cond (ltb t rank) 1 0) k′
-  count-step total k k′ s h rank e = record {
-    number = suc (s .number);
-    place = at-next R n k k′ (s .number) (s .place) h;
-    sum = λ i. s .sum i + cond (ltb t (e i)) 1 0;
-  }
-
-  pub count-small : (total : ℕ) (k : Walk) → Counting R n t p total k → total ≤ 262144
-  count-small total k s =
-      let q = passed n R (r .side-is) (r .depth-is) in
-      let a = s .sum in
-      omega (arith, few-places R n q, s .place .few, count-few (λ m. ltb t (getD (ranks R n n (imageOf n p)) m 0)) (s .number))
-
-  pub count-all : (total : ℕ) (k : Walk) → Counting R n t p total k → k .left ≡ 0 → total ≡ above (ranks R n n (imageOf n p)) t
-  count-all total k s e =
-      let q = passed n R (r .side-is) (r .depth-is) in
-      s .sum ∙ ap (λ (m : ℕ). Σℕ m (λ m. cond (ltb t (getD (ranks R n n (imageOf n p)) m 0)) 1 0)) (at-end R n k (s .number) (s .place) e ∙ sym (q-length R n n (q .fits) 0 (imageOf n p)))
 
 -- ---- counting by runs
 

@@ -28,9 +28,10 @@ above q t = Σℕ (length q) (λ m. cond (ltb t (getD q m 0)) 1 0)
 abbrev pub ties : List ℕ → ℕ → ℕ → ℕ
 ties q t n = Σℕ n (λ m. cond (eqb t (getD q m 0)) 1 0)
 
--- A limit for keep: at most K ranks are above it, and it is 0 or more than K are above the rank before it.
-pub record Limit (q : List ℕ) (K t : ℕ) : Type 0 where
-  pub few : above q t ≤ K
+-- A limit t for keep, and how many ranks are above it: at most K; and t is 0 or more than K are above the rank before it.
+pub record Limit (q : List ℕ) (K t over : ℕ) : Type 0 where
+  pub all : over ≡ above q t
+  pub few : over ≤ K
   pub least : (t ≡ 0) ⊎ (K < above q (t - 1))
 
 -- A rank in the run with the number j of those of w ranks from `base` on; how many ranks are in it, and how many are x or above.

@@ -9,7 +9,7 @@ ghost use Rattle.pyramid.specs.Places.{tetroletPlaces};
 ghost use Rattle.pyramid.specs.Slices.{imageOf};
 ghost use Rattle.quota.specs.Quota.{ranks};
 ghost use Rattle.keeping.specs.Entries.{quotaLimit};
-ghost use Rattle.keeping.specs.Sifting.{Ready, above, Limit, Small, Zeros, OneMore, RunCounts, Inside};
+ghost use Rattle.keeping.specs.Sifting.{Ready, Limit, Small, Zeros, OneMore, RunCounts, Inside};
 
 // 2 to the power r. Two wrong answers that the contract rules out: 0 for r 0, and 2 times r.
 pub fn doubled(r: u32) -> u64
@@ -47,25 +47,6 @@ pub fn rank_of(v: i64, levels: u32, level: u32) -> u64
 {
     let m = integers::magnitude(v);
     m * doubled(levels - level)
-}
-
-// How many tetrolet entries rank above t. Two wrong answers that the contract rules out: those of rank t counted too; the low-pass counted too.
-pub fn count_above(side: u32, levels: u32, plane: &[i64], t: u64) -> u64
-    requires { ⌜ Ready side levels (now plane) ⌝ }
-    ensures { λ r. ⌜ r ≡ above (ranks levels side side (imageOf side (now (plane .entry)))) t ⌝ }
-{
-    let mut total: u64 = 0;
-    let mut k = places::walk::first_tetrolet(side, levels);
-    while 0 < k.left {
-        let i = places::checks::index_of(k, side);
-        let v = plane[i];
-        let r = rank_of(v, levels, k.level);
-        if t < r {
-            total += 1;
-        }
-        k = places::walk::step(k, side);
-    }
-    total
 }
 
 // One entry more in the counts of 512 runs of 2^shift ranks from `base` on: the count of the run that the rank is in.
@@ -145,15 +126,15 @@ fn narrowed(
     }
 }
 
-// The rank at which keep begins to drop entries: the least with at most `quota` ranks above it, found by its three digits to the base 512.
+// The rank at which keep begins to drop entries: the least with at most `quota` ranks above it, found by its three digits to the base 512;
+// and how many ranks are above it.
 // Two wrong answers that the contract rules out: a rank that leaves more than `quota` entries above it; one where a lesser rank would do.
-pub fn limit_of(side: u32, levels: u32, plane: &[i64], quota: u64) -> u64
+pub fn limit_of(side: u32, levels: u32, plane: &[i64], quota: u64) -> Found
     requires { ⌜ Ready side levels (now plane) ⌝ }
-    ensures { λ r. ⌜ Limit (ranks levels side side (imageOf side (now (plane .entry)))) quota r ⌝ }
+    ensures { λ r. ⌜ Limit (ranks levels side side (imageOf side (now (plane .entry)))) quota (r .base) (r .over) ⌝ }
 {
     let all = Found { base: 0, over: 0 };
     let first = narrowed(side, levels, plane, all, 18, 262144, quota);
     let second = narrowed(side, levels, plane, first, 9, 512, quota);
-    let third = narrowed(side, levels, plane, second, 0, 1, quota);
-    third.base
+    narrowed(side, levels, plane, second, 0, 1, quota)
 }

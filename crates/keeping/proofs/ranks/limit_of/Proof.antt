@@ -17,7 +17,7 @@ narrowed-requires-3 : tie.Need-narrowed-requires-3
 narrowed-requires-3 c κs = (c .before .before .pre, ((omega arith, refl, omega (arith, c .narrowed2 .ensures .1, c .before .narrowed .ensures .1)), c .narrowed2 .ensures .0))
 
 returns : tie.Need-returns
-returns c = one-left _ _ _ (c .narrowed3 .result) refl (c .narrowed3 .ensures .0)
+returns c = one-left _ _ (c .narrowed3 .result) (c .narrowed3 .ensures .0)
 
 pub limit-of-spec : {M : Type 1} → statement M
 limit-of-spec = tie.close (tie.spec narrowed-requires narrowed-requires-2 narrowed-requires-3 returns)
