@@ -1,4 +1,4 @@
--- One pass in plane order: which entries it leaves, by a rank that limits and how many entries of this rank stay. Assumes nothing.
+-- One pass in plane order: which entries it leaves, by a rank that limits and how many entries of this rank stay; and what such a limit is for keep. Assumes nothing.
 use mathlib.Core.Path.{_≡_}
 use mathlib.Core.Bool.{Bool, true, cond, _&&_, _||_}
 use mathlib.Core.List.{List}

@@ -1,4 +1,4 @@
-// The ranks of the tetrolet entries, how many of them are above a rank, and the rank at which keep begins to drop entries.
+// The ranks of the tetrolet entries, and the rank at which keep begins to drop entries, found by counting ranks in runs.
 ghost use mathlib.Core.Path.{_≡_};
 ghost use mathlib.Core.Bool.{true};
 ghost use Prim.Native.Nat.{ℕ, _+_, _*_, _-_, _/_, _^_, _<_, _≤_};
