@@ -17,7 +17,7 @@ use Rattle.pyramid.specs.Ranges.{inRange}
 use Rattle.pyramid.specs.Slices.{imageOf}
 use Rattle.quota.specs.Quota.{ranks, entriesOf}
 use Rattle.places.proofs.Sides.{passed}
-use Rattle.keeping.specs.Sifting.{Ready, above, Limit, Sifted}
+use Rattle.keeping.specs.Sifting.{Ready, Limit, Sifted}
 use Rattle.keeping.specs.Entries.{quotaLimit, keepRefusal, Kept, cutRefusal, Cut}
 use Rattle.keeping.proofs.Chosen.{kept-is, cut-is}
 
@@ -49,10 +49,10 @@ module _ (side levels : ℕ) (plane : List ℤ) where
     no-quota r l = refuses Quota (simp (r .side-is, r .depth-is, eq-eqb (length plane) (side * side) (r .long), r .range, true-at (quotaLimit side levels) quota l))
 
     pub keeps : Ready side levels plane → quota ≤ quotaLimit side levels → (plane′ : List ℤ) (t over count : ℕ)
-        → Limit (ranks levels side side (imageOf side plane)) quota t → over ≡ above (ranks levels side side (imageOf side plane)) t
+        → Limit (ranks levels side side (imageOf side plane)) quota t over
         → Sifted levels side t (quota - over) plane plane′ count → Kept side levels plane plane′ quota 0 count
-    keeps r l plane′ t over count h e s =
-        let w = s .planes ∙ kept-is levels side (passed side levels (r .side-is) (r .depth-is) .fits) plane quota t over h e in
+    keeps r l plane′ t over count h s =
+        let w = s .planes ∙ kept-is levels side (passed side levels (r .side-is) (r .depth-is) .fits) plane quota t over h in
         record {
           number = simp (r .side-is, r .depth-is, eq-eqb (length plane) (side * side) (r .long), r .range, false-at (quotaLimit side levels) quota l);
           planes = w;

@@ -19,15 +19,14 @@ use Rattle.pyramid.proofs.Places.{none, places-levels}
 use Rattle.pyramid.proofs.Number.{places-count}
 use Rattle.quota.specs.Quota.{ranks, stays, passes, keptOf, cutOf}
 use Rattle.quota.proofs.Demand.{q-at, q-length}
-use Rattle.keeping.specs.Sifting.{above, ties, Limit, sifts, siftedOf}
+use Rattle.keeping.specs.Sifting.{ties, Limit, sifts, siftedOf}
 use Rattle.keeping.proofs.Limits.{keep-by, ties-few}
 use Rattle.keeping.proofs.Passing.{same-selected}
 
-pub kept-is : (R n : ℕ) → Fits R n n → (p : List ℤ) (K t over : ℕ) → Limit (ranks R n n (imageOf n p)) K t → over ≡ above (ranks R n n (imageOf n p)) t → siftedOf R n t (K - over) p ≡ keptOf R n n K p
-kept-is R n f p K t over h e =
-    ap (λ (x : ℕ). siftedOf R n t (K - x) p) e
-    ∙ same-selected R n f (sifts t (K - above q t) q) (stays K q) P
-    (λ m l. ap (λ (b : Bool). cond b (at P (getD (tetroletPlaces R n n) m none)) (pos 0)) (keep-by q K t h m (subst⁻¹ (λ (x : ℕ). m < x) (q-length R n n f 0 P) l)))
+pub kept-is : (R n : ℕ) → Fits R n n → (p : List ℤ) (K t over : ℕ) → Limit (ranks R n n (imageOf n p)) K t over → siftedOf R n t (K - over) p ≡ keptOf R n n K p
+kept-is R n f p K t over h =
+    same-selected R n f (sifts t (K - over) q) (stays K q) P
+    (λ m l. ap (λ (b : Bool). cond b (at P (getD (tetroletPlaces R n n) m none)) (pos 0)) (keep-by q K t over h m (subst⁻¹ (λ (x : ℕ). m < x) (q-length R n n f 0 P) l)))
   where
     P : Image
     P = imageOf n p

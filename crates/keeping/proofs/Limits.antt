@@ -1,5 +1,5 @@
 -- The rank at which keep begins to drop entries, and the threshold as such a rank: a pass by them leaves what keep and threshold leave. Assumes nothing.
-use mathlib.Core.Path.{_≡_, refl, sym, ap, _∙_}
+use mathlib.Core.Path.{_≡_, refl, sym, ap, _∙_, subst}
 use mathlib.Core.Logic.{_⊎_, inl, inr}
 use mathlib.Core.Bool.{Bool, true, false, cond, _&&_, _||_}
 use mathlib.Core.List.{List}
@@ -30,9 +30,9 @@ above-next q t =
         go (no a) b = rw (false-at t r (omega arith), false-at (suc t) r (omega arith), ne-eqb (suc t) r (omega arith)) refl
 
 -- a limit splits the list at K
-splits : (q : List ℕ) (K t : ℕ) → Limit q K t → (t ≡ 0) ⊎ (K ≤ above q t + ties q t (length q))
-splits q K zero h = inl refl
-splits q K (suc t) h = go (h .least)
+splits : (q : List ℕ) (K t over : ℕ) → Limit q K t over → (t ≡ 0) ⊎ (K ≤ above q t + ties q t (length q))
+splits q K zero over h = inl refl
+splits q K (suc t) over h = go (h .least)
   where
     go : (suc t ≡ 0) ⊎ (K < above q (suc t - 1)) → (suc t ≡ 0) ⊎ (K ≤ above q (suc t) + ties q (suc t) (length q))
     go (inl e) = absurd (omega arith)
@@ -47,13 +47,14 @@ left-over a b k = go (decLt (a + b) k)
     go (no l) = false-at b (k - a) (omega arith) ∙ sym (false-at (a + b) k (omega arith))
 
 -- keep by a limit
-pub keep-by : (q : List ℕ) (K t : ℕ) → Limit q K t → (n : ℕ) → n < length q → sifts t (K - above q t) q n ≡ stays K q n
-keep-by q K t h n l =
-    ap (λ (b : Bool). ltb 0 (getD q n 0) && (ltb t (getD q n 0) || (eqb t (getD q n 0) && b))) (left-over (above q t) (ties q t n) K)
-    ∙ sym (stays-threshold q t n l K (h .few) (splits q K t h))
+pub keep-by : (q : List ℕ) (K t over : ℕ) → Limit q K t over → (n : ℕ) → n < length q → sifts t (K - over) q n ≡ stays K q n
+keep-by q K t over h n l =
+    ap (λ (x : ℕ). sifts t (K - x) q n) (h .all)
+    ∙ ap (λ (b : Bool). ltb 0 (getD q n 0) && (ltb t (getD q n 0) || (eqb t (getD q n 0) && b))) (left-over (above q t) (ties q t n) K)
+    ∙ sym (stays-threshold q t n l K (subst (λ (x : ℕ). x ≤ K) (h .all) (h .few)) (splits q K t over h))
 
 -- no rank is above a bound
-pub above-none : (q : List ℕ) (t : ℕ) → ((m : ℕ) → m < length q → getD q m 0 < t) → above q t ≡ 0
+pub above-none : (q : List ℕ) (t : ℕ) → ((m : ℕ) → m < length q → getD q m 0 ≤ t) → above q t ≡ 0
 above-none q t h = Σℕ-cong (length q) (λ m. cond (ltb t (getD q m 0)) 1 0) (λ m. 0) (λ m l. ap {B = ℕ} (λ (b : Bool). cond b 1 0) (false-at t (getD q m 0) (omega (arith, h m l)))) ∙ Σℕ-zero (length q)
 
 -- at most n of n ranks are t

@@ -22,7 +22,7 @@ use Rattle.quota.specs.Quota.{ranks, entriesOf}
 use Rattle.quota.proofs.Demand.{q-at, q-length}
 use Rattle.keeping.specs.declared.tally.Tally.{Tally}
 use Rattle.keeping.specs.Tallies.{staysNow, Tallied}
-use Rattle.keeping.specs.Sifting.{Ready, above, ties, sifts, Sifted}
+use Rattle.keeping.specs.Sifting.{Ready, from, inRun, runCount, Small, OneMore, RunCounts, ties, sifts, Sifted}
 use Rattle.keeping.proofs.Limits.{left-over, above-none}
 use Rattle.keeping.proofs.Passing.{spot, value, stores, Here, here, in-range, more-left, unread, stores-all, count-selected, sifted-not-zero}
 use Rattle.keeping.proofs.Sizes.{few-places, rank-small}
@@ -59,35 +59,43 @@ count-few g (suc n) = let a = count-few g n in let b = one (g n) in omega arith
     one true = omega arith
     one false = omega arith
 
--- ---- counting
+-- ---- counting by runs
 
-pub record Counting (R n t : ℕ) (p : List ℤ) (total : ℕ) (k : Walk) : Type 0 where
+pub record Running (R n base w : ℕ) (p : List ℤ) (counts : List ℕ) (k : Walk) : Type 0 where
   pub number : ℕ
   pub place : At R n k number
-  pub sum : total ≡ Σℕ number (λ m. cond (ltb t (getD (ranks R n n (imageOf n p)) m 0)) 1 0)
+  pub long : length counts ≡ 512
+  pub runs : (j : ℕ) → j < 512 → getD counts j 0 ≡ runCount (ranks R n n (imageOf n p)) base w j number
 
-module _ (R n t : ℕ) (p : List ℤ) (r : Ready n R p) where
-  pub count-step : (total : ℕ) (k k′ : Walk) (s : Counting R n t p total k) → Stepped n k k′ → (rank : ℕ) → rank ≡ getD (ranks R n n (imageOf n p)) (s .number) 0 → Counting R n t p (total + cond (ltb t rank) 1 0) k′
-  count-step total k k′ s h rank e = record {
+module _ (R n base w : ℕ) (p : List ℤ) (r : Ready n R p) where
+  pub run-step : (counts counts′ : List ℕ) (k k′ : Walk) (s : Running R n base w p counts k) → Stepped n k k′ → (rank : ℕ) → rank ≡ getD (ranks R n n (imageOf n p)) (s .number) 0 → OneMore counts counts′ base w rank
+      → Running R n base w p counts′ k′
+  run-step counts counts′ k k′ s h rank e o = record {
     number = suc (s .number);
     place = at-next R n k k′ (s .number) (s .place) h;
-    sum = λ i. s .sum i + cond (ltb t (e i)) 1 0;
+    long = o .long ∙ s .long;
+    runs = λ j l. o .more j l ∙ (λ i. s .runs j l i + cond (inRun base w j (e i)) 1 0);
   }
 
-  pub count-small : (total : ℕ) (k : Walk) → Counting R n t p total k → total ≤ 262144
-  count-small total k s =
-      let q = passed n R (r .side-is) (r .depth-is) in
-      let a = s .sum in
-      omega (arith, few-places R n q, s .place .few, count-few (λ m. ltb t (getD (ranks R n n (imageOf n p)) m 0)) (s .number))
+  pub run-small : (counts : List ℕ) (k : Walk) → Running R n base w p counts k → Small counts
+  run-small counts k s = record { long = s .long; small = λ j l. let q = passed n R (r .side-is) (r .depth-is) in let a = s .runs j l in omega (arith, few-places R n q, s .place .few, count-few (λ m. inRun base w j (getD (ranks R n n (imageOf n p)) m 0)) (s .number)) }
 
-  pub count-all : (total : ℕ) (k : Walk) → Counting R n t p total k → k .left ≡ 0 → total ≡ above (ranks R n n (imageOf n p)) t
-  count-all total k s e =
-      let q = passed n R (r .side-is) (r .depth-is) in
-      s .sum ∙ ap (λ (m : ℕ). Σℕ m (λ m. cond (ltb t (getD (ranks R n n (imageOf n p)) m 0)) 1 0)) (at-end R n k (s .number) (s .place) e ∙ sym (q-length R n n (q .fits) 0 (imageOf n p)))
+  pub run-all : (counts : List ℕ) (k : Walk) → Running R n base w p counts k → k .left ≡ 0 → RunCounts (ranks R n n (imageOf n p)) base w counts
+  run-all counts k s e = record {
+    counted = λ j l.
+        let q = passed n R (r .side-is) (r .depth-is) in
+        s .runs j l ∙ ap (λ (m : ℕ). runCount (ranks R n n (imageOf n p)) base w j m) (at-end R n k (s .number) (s .place) e ∙ sym (q-length R n n (q .fits) 0 (imageOf n p)));
+  }
 
--- no rank is above 2 ^ 27
-pub above-high : (R n : ℕ) (p : List ℤ) → Ready n R p → above (ranks R n n (imageOf n p)) 134217728 ≡ 0
-above-high R n p r = above-none q 134217728 (λ m l. small m (omega (arith, q-length R n n (z .fits) 0 (imageOf n p))))
+-- no count passes the number of entries
+pub few-of : (R n : ℕ) (p : List ℤ) → Ready n R p → (g : ℕ → Bool) → Σℕ (length (ranks R n n (imageOf n p))) (λ m. cond (g m) 1 0) ≤ 262144
+few-of R n p r g =
+    let q = passed n R (r .side-is) (r .depth-is) in
+    omega (arith, few-places R n q, q-length R n n (q .fits) 0 (imageOf n p), count-few g (length (ranks R n n (imageOf n p))))
+
+-- no rank is 2 ^ 27 or above
+pub from-high : (R n : ℕ) (p : List ℤ) → Ready n R p → 0 ≡ from (ranks R n n (imageOf n p)) 134217728
+from-high R n p r = sym (above-none q 134217727 (λ m l. small m (omega (arith, q-length R n n (z .fits) 0 (imageOf n p)))))
   where
     q : List ℕ
     q = ranks R n n (imageOf n p)
@@ -95,7 +103,7 @@ above-high R n p r = above-none q 134217728 (λ m l. small m (omega (arith, q-le
     z : Passed n R
     z = passed n R (r .side-is) (r .depth-is)
 
-    small : (m : ℕ) → m < length (tetroletPlaces R n n) → getD q m 0 < 134217728
+    small : (m : ℕ) → m < length (tetroletPlaces R n n) → getD q m 0 ≤ 134217727
     small m l =
         let v = places-levels 0 R R n n (omega arith) m l in
         let e = q-at R n n (z .fits) 0 (imageOf n p) m l in

@@ -35,9 +35,8 @@ pub fn keep(side: usize, levels: usize, plane: &mut [i64], quota: u64) -> Counte
     if ranks::most_entries(n, r) < quota {
         return Counted::Refused(Refusal::Quota);
     }
-    let limit = ranks::limit_of(n, r, plane, quota);
-    let over = ranks::count_above(n, r, plane, limit);
-    Counted::Count(sift::sift(n, r, plane, limit, quota - over))
+    let found = ranks::limit_of(n, r, plane, quota);
+    Counted::Count(sift::sift(n, r, plane, found.base, quota - found.over))
 }
 
 // Cuts by a threshold: an entry of level r stays if its absolute value is at least `limit` times 2^r. Document 01: "cut 1 2 3 6 8".

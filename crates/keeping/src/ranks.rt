@@ -1,7 +1,7 @@
-// The ranks of the tetrolet entries, how many of them are above a rank, and the rank at which keep begins to drop entries.
+// The ranks of the tetrolet entries, and the rank at which keep begins to drop entries, found by counting ranks in runs.
 ghost use mathlib.Core.Path.{_≡_};
 ghost use mathlib.Core.Bool.{true};
-ghost use Prim.Native.Nat.{ℕ, _*_, _-_, _/_, _^_, _<_, _≤_};
+ghost use Prim.Native.Nat.{ℕ, _+_, _*_, _-_, _/_, _^_, _<_, _≤_};
 ghost use lib.IntN.{natAbs};
 ghost use lib.ListN.{length};
 ghost use Rattle.pyramid.specs.Sides.{isSide, isDepth};
@@ -9,7 +9,7 @@ ghost use Rattle.pyramid.specs.Places.{tetroletPlaces};
 ghost use Rattle.pyramid.specs.Slices.{imageOf};
 ghost use Rattle.quota.specs.Quota.{ranks};
 ghost use Rattle.keeping.specs.Entries.{quotaLimit};
-ghost use Rattle.keeping.specs.Sifting.{Ready, above, Limit};
+ghost use Rattle.keeping.specs.Sifting.{Ready, Limit, Small, Zeros, OneMore, RunCounts, Inside};
 
 // 2 to the power r. Two wrong answers that the contract rules out: 0 for r 0, and 2 times r.
 pub fn doubled(r: u32) -> u64
@@ -49,40 +49,92 @@ pub fn rank_of(v: i64, levels: u32, level: u32) -> u64
     m * doubled(levels - level)
 }
 
-// How many tetrolet entries rank above t. Two wrong answers that the contract rules out: those of rank t counted too; the low-pass counted too.
-pub fn count_above(side: u32, levels: u32, plane: &[i64], t: u64) -> u64
-    requires { ⌜ Ready side levels (now plane) ⌝ }
-    ensures { λ r. ⌜ r ≡ above (ranks levels side side (imageOf side (now (plane .entry)))) t ⌝ }
+// One entry more in the counts of 512 runs of 2^shift ranks from `base` on: the count of the run that the rank is in.
+fn count_rank(counts: &mut [u32; 512], rank: u64, base: u64, shift: u64)
+    requires { ⌜ Small (now counts) ⌝ }
+    requires { ⌜ shift ≤ 18 ⌝ }
+    ensures { λ _. ⌜ OneMore (now (counts .entry)) (now (counts .exit)) base (2 ^ shift) rank ⌝ }
 {
-    let mut total: u64 = 0;
+    if rank < base {
+        return;
+    }
+    let b = (rank - base) >> shift;
+    if 511 < b {
+        return;
+    }
+    let i = b as usize;
+    counts[i] = counts[i] + 1;
+}
+
+// How many tetrolet entries rank in each of 512 runs of 2^shift ranks from `base` on.
+fn count_runs(side: u32, levels: u32, plane: &[i64], base: u64, shift: u64, counts: &mut [u32; 512])
+    requires { ⌜ Ready side levels (now plane) ⌝ }
+    requires { ⌜ (shift ≤ 18) × Zeros (now counts) ⌝ }
+    ensures { λ _. ⌜ RunCounts (ranks levels side side (imageOf side (now (plane .entry)))) base (2 ^ shift) (now (counts .exit)) ⌝ }
+{
     let mut k = places::walk::first_tetrolet(side, levels);
     while 0 < k.left {
         let i = places::checks::index_of(k, side);
         let v = plane[i];
         let r = rank_of(v, levels, k.level);
-        if t < r {
-            total += 1;
-        }
+        count_rank(counts, r, base, shift);
         k = places::walk::step(k, side);
     }
-    total
 }
 
-// The rank at which keep begins to drop entries: the least with at most `quota` ranks above it.
-// Two wrong answers that the contract rules out: a rank that leaves more than `quota` entries above it; one where a lesser rank would do.
-pub fn limit_of(side: u32, levels: u32, plane: &[i64], quota: u64) -> u64
+// Where the limit is: at `base` or behind it, with `over` ranks behind the run that begins there.
+pub struct Found {
+    pub base: u64,
+    pub over: u64,
+}
+
+// Finds the limit to a run of `step` ranks, 2^shift, among the 512 runs from `base` on.
+fn narrowed(
+    side: u32,
+    levels: u32,
+    plane: &[i64],
+    at: Found,
+    shift: u64,
+    step: u64,
+    quota: u64,
+) -> Found
     requires { ⌜ Ready side levels (now plane) ⌝ }
-    ensures { λ r. ⌜ Limit (ranks levels side side (imageOf side (now (plane .entry)))) quota r ⌝ }
+    requires { ⌜ (shift ≤ 18) × (step ≡ 2 ^ shift) × (at .base + 512 * step ≤ 134217728) ⌝ }
+    requires { ⌜ Inside (ranks levels side side (imageOf side (now plane))) quota (512 * step) at ⌝ }
+    ensures { λ r. ⌜ Inside (ranks levels side side (imageOf side (now (plane .entry)))) quota step r ⌝ }
+    ensures { λ r. ⌜ r .base + step ≤ at .base + 512 * step ⌝ }
 {
-    let mut low: u64 = 0;
-    let mut high: u64 = 134217728;
-    while low < high {
-        let middle = (low + high) / 2;
-        if count_above(side, levels, plane, middle) <= quota {
-            high = middle;
-        } else {
-            low = middle + 1;
+    let base = at.base;
+    let mut counts = [0u32; 512];
+    count_runs(side, levels, plane, base, shift, &mut counts);
+    let mut j: usize = 511;
+    let mut total = at.over;
+    while 0 < j {
+        let more = total + counts[j] as u64;
+        if quota < more {
+            return Found {
+                base: base + (j as u64) * step,
+                over: total,
+            };
         }
+        total = more;
+        j -= 1;
     }
-    low
+    Found {
+        base: base,
+        over: total,
+    }
+}
+
+// The rank at which keep begins to drop entries: the least with at most `quota` ranks above it, found by its three digits to the base 512;
+// and how many ranks are above it.
+// Two wrong answers that the contract rules out: a rank that leaves more than `quota` entries above it; one where a lesser rank would do.
+pub fn limit_of(side: u32, levels: u32, plane: &[i64], quota: u64) -> Found
+    requires { ⌜ Ready side levels (now plane) ⌝ }
+    ensures { λ r. ⌜ Limit (ranks levels side side (imageOf side (now (plane .entry)))) quota (r .base) (r .over) ⌝ }
+{
+    let all = Found { base: 0, over: 0 };
+    let first = narrowed(side, levels, plane, all, 18, 262144, quota);
+    let second = narrowed(side, levels, plane, first, 9, 512, quota);
+    narrowed(side, levels, plane, second, 0, 1, quota)
 }

@@ -76,22 +76,19 @@ returns-5 c = no-quota _ _ _ _ (readied (c .before .before)) (omega (arith, c .b
 limit-of-requires : tie.Need-limit-of-requires
 limit-of-requires c κs = readied (c .before .before .before)
 
-count-above-requires : tie.Need-count-above-requires
-count-above-requires c κs = readied (c .before .before .before .before .before)
-
 sub-sift : tie.Need-sub-sift
-sub-sift c = omega (arith, c .before .count-above .ensures, c .before .before .before .limit-of .ensures .few)
+sub-sift c = c .before .before .limit-of .ensures .few
 
 sift-requires : tie.Need-sift-requires
-sift-requires c κs = readied (c .before .before .before .before .before .before .before)
+sift-requires c κs = readied (c .before .before .before .before .before .before)
 
 same-length-3 : tie.Need-same-length-3
 same-length-3 c = search needs
 
 returns-6 : tie.Need-returns-6
 returns-6 c =
-    keeps _ _ _ _ (readied (c .before .before .before .before .before .before .before .before .before)) (omega (arith, c .before .before .before .before .before .before .before .before .most-entries .ensures .0, c .before .before .before .before .before .before .before .if5 .left)) _ (c .before .before .before .before .before .limit-of .result) (c .before .before .before .count-above .result) (c .before .sift .result)
-    (c .before .before .before .before .before .limit-of .ensures) (c .before .before .before .count-above .ensures) (c .before .sift .ensures)
+    keeps _ _ _ _ (readied (c .before .before .before .before .before .before .before .before)) (omega (arith, c .before .before .before .before .before .before .before .most-entries .ensures .0, c .before .before .before .before .before .before .if5 .left)) _ (c .before .before .before .before .limit-of .result .base) (c .before .before .before .before .limit-of .result .over) (c .before .sift .result)
+    (c .before .before .before .before .limit-of .ensures) (c .before .sift .ensures)
 
 pub keep-spec : {M : Type 1} → statement M
 keep-spec =
@@ -112,7 +109,6 @@ keep-spec =
     same-length-2
     returns-5
     limit-of-requires
-    count-above-requires
     sub-sift
     sift-requires
     same-length-3

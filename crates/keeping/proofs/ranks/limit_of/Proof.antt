@@ -1,71 +1,23 @@
--- `keeping::ranks::limit_of` meets its contract: at most `quota` ranks are above `high`, and more below `low`. Assumes nothing.
-use mathlib.Core.Path.{_≡_, refl, ap, subst}
-use mathlib.Core.Logic.{_⊎_, inl, inr}
-use Prim.Native.Nat.{ℕ, _+_, _-_, _/_, _<_, _≤_}
+-- `keeping::ranks::limit_of` meets its contract: three digits, each narrows the ranks that the limit is among. Assumes nothing.
+use mathlib.Core.Path.{refl}
+use mathlib.Core.Logic.{inl}
 use native.Mathlib.Omega.{arith}
-use Rattle.pyramid.specs.Slices.{imageOf}
-use Rattle.quota.specs.Quota.{ranks}
-use Rattle.keeping.specs.Sifting.{above}
-use Rattle.keeping.proofs.Turns.{above-high}
+use Rattle.keeping.proofs.Runs.{one-left}
+use Rattle.keeping.proofs.Turns.{from-high}
 use Rattle.keeping.proofs.ranks.limit_of.Statement.{statement}
 use Rattle.keeping.proofs.ranks.limit_of.Tie as tie
 
-abbrev Inv-loop : tie.InvT-loop
-Inv-loop side levels plane quota low₀ high₀ low high =
-    let q = ranks levels side side (imageOf side plane) in (low ≤ high) × (high ≤ 134217728) × (above q high ≤ quota) × ((low ≡ 0) ⊎ (quota < above q (low - 1)))
+narrowed-requires : tie.Need-narrowed-requires
+narrowed-requires c κs = (c .pre, ((omega arith, refl, omega arith), record { over = from-high (c .args .levels) (c .args .side) (c .args .plane .now) (c .pre); few = omega arith; least = inl refl }))
 
-abbrev μ-loop : tie.MeasureT-loop
-μ-loop side levels plane quota low₀ high₀ low high = high - low
+narrowed-requires-2 : tie.Need-narrowed-requires-2
+narrowed-requires-2 c κs = (c .before .pre, ((omega arith, refl, omega (arith, c .narrowed .ensures .1)), c .narrowed .ensures .0))
 
-loop-holds : tie.Need-loop-holds Inv-loop μ-loop
-loop-holds c = (omega arith, omega arith, omega (arith, above-high (c .args .levels) (c .args .side) (c .args .plane .now) (c .pre)), inl refl)
+narrowed-requires-3 : tie.Need-narrowed-requires-3
+narrowed-requires-3 c κs = (c .before .before .pre, ((omega arith, refl, omega (arith, c .narrowed2 .ensures .1, c .before .narrowed .ensures .1)), c .narrowed2 .ensures .0))
 
-add-middle : tie.Need-add-middle Inv-loop μ-loop
-add-middle c = omega arith
-
-count-above-requires : tie.Need-count-above-requires Inv-loop μ-loop
-count-above-requires c κs = c .before .before .pre
-
-loop-less : tie.Need-loop-less Inv-loop μ-loop
-loop-less c = omega arith
-
-loop-again : tie.Need-loop-again Inv-loop μ-loop
-loop-again c = let i = c .before .before .before .loop .inv in (omega arith, omega arith, omega (arith, c .before .count-above .ensures), i .3)
-
-add-low : tie.Need-add-low Inv-loop μ-loop
-add-low c = omega arith
-
-loop-less-2 : tie.Need-loop-less-2 Inv-loop μ-loop
-loop-less-2 c = omega arith
-
-loop-again-2 : tie.Need-loop-again-2 Inv-loop μ-loop
-loop-again-2 c =
-    let s = c .before .before .before .before .args in
-    let l = c .before .before .before .loop in
-    let m = (l .low + l .high) / 2 in
-    let e : m + 1 - 1 ≡ m = omega arith in
-    (omega arith, omega arith, l .inv .2, inr (omega (arith, c .before .count-above .ensures, ap (above (ranks (s .levels) (s .side) (s .side) (imageOf (s .side) (s .plane .now)))) e)))
-
-returns : tie.Need-returns Inv-loop μ-loop
-returns c =
-    let s = c .before .before .args in
-    let l = c .before .loop in
-    let q = ranks (s .levels) (s .side) (s .side) (imageOf (s .side) (s .plane .now)) in
-    let e : l .high ≡ l .low = omega arith in
-    record { few = subst (λ (x : ℕ). above q x ≤ s .quota) e (l .inv .2); least = l .inv .3 }
+returns : tie.Need-returns
+returns c = one-left _ _ (c .narrowed3 .result) (c .narrowed3 .ensures .0)
 
 pub limit-of-spec : {M : Type 1} → statement M
-limit-of-spec =
-    tie.close
-    (tie.spec
-    Inv-loop
-    μ-loop
-    loop-holds
-    add-middle
-    count-above-requires
-    loop-less
-    loop-again
-    add-low
-    loop-less-2
-    loop-again-2
-    returns)
+limit-of-spec = tie.close (tie.spec narrowed-requires narrowed-requires-2 narrowed-requires-3 returns)
