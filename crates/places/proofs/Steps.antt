@@ -1,6 +1,6 @@
 -- A step of a walk leaves all but the present cell; the first step of a walk has all entries, or all blocks, before it. Assumes nothing.
 use mathlib.Core.Path.{_≡_, refl, sym, ap, _∙_, subst}
-use mathlib.Core.Bool.{true}
+use mathlib.Core.Bool.{true, false}
 use mathlib.Core.List.{List, [], _∷_, _++_}
 use Prim.Native.Nat.{ℕ, zero, suc, _+_, _*_, _-_, _/_, _%_, _^_, _<_, _≤_}
 use native.Mathlib.Nat.{pow-succ', pow-le-pow-right}
@@ -10,7 +10,7 @@ use lib.Seq.{drop-cons}
 use Rattle.integers.specs.Lists.{tabulate}
 use Rattle.integers.proofs.Index.{index-bound, column-row, column-col}
 use Rattle.integers.proofs.Tabulate.{length-tabulate, getD-tabulate}
-use Rattle.pyramid.specs.Places.{Place, BlockPlace, placesFrom, blocksFrom, planePlaces, blockPlaces}
+use Rattle.pyramid.specs.Places.{Place, BlockPlace, placesFrom, blocksFrom, planePlaces, tetroletPlaces, blockPlaces}
 use Rattle.pyramid.specs.Plane.{Fits}
 use Rattle.places.proofs.Sides.{Passed}
 use Rattle.places.specs.declared.walk.Walk.{Walk}
@@ -153,6 +153,14 @@ entries-are d (suc (suc R)) h w =
     ap (λ t. bandCells entryAt (h / 2) (w / 2) (suc d) 1 ++ (bandCells entryAt (h / 2) (w / 2) (suc d) 2 ++ (bandCells entryAt (h / 2) (w / 2) (suc d) 3 ++ t)))
     (entries-are (suc d) (suc R) (h / 2) (w / 2))
 
+pub tetrolets-are : (d R h w : ℕ) → levelsFrom entryAt 1 1 d R (h / 2) (w / 2) ≡ placesFrom false d R h w
+unfolding levelsFrom bandsFrom placesFrom
+tetrolets-are d zero h w = refl
+tetrolets-are d (suc zero) h w = refl
+tetrolets-are d (suc (suc R)) h w =
+    ap (λ t. bandCells entryAt (h / 2) (w / 2) (suc d) 1 ++ (bandCells entryAt (h / 2) (w / 2) (suc d) 2 ++ (bandCells entryAt (h / 2) (w / 2) (suc d) 3 ++ t)))
+    (tetrolets-are (suc d) (suc R) (h / 2) (w / 2))
+
 pub blocks-are : (d R h w : ℕ) → levelsFrom blockAt 3 3 d R (h / 4) (w / 4) ≡ blocksFrom d R h w
 unfolding levelsFrom bandsFrom blocksFrom
 blocks-are d zero h w = refl
@@ -203,6 +211,9 @@ module _ (n R : ℕ) (q : Passed n R) where
   pub entry-start : (b : ℕ) → b ≤ 3 → Inside n (record { level = 1; left = R; band = b; row = 0; col = 0; height = n / 2; width = n / 2; low = 0; first = 1 })
   entry-start b c = let r = room in let t = two in let m = quarter in started b (n / 2) 0 1 c (omega arith) (omega arith) (omega arith) (omega arith) (omega arith)
 
+  pub tetrolet-start : Inside n (record { level = 1; left = R; band = 1; row = 0; col = 0; height = n / 2; width = n / 2; low = 1; first = 1 })
+  tetrolet-start = let r = room in let t = two in let m = quarter in started 1 (n / 2) 1 1 (omega arith) (omega arith) (omega arith) (omega arith) (omega arith) (omega arith)
+
   pub block-start : Inside n (record { level = 1; left = R; band = 3; row = 0; col = 0; height = n / 4; width = n / 4; low = 3; first = 3 })
   block-start = let r = room in let t = two in let m = quarter in started 3 (n / 4) 3 3 (omega arith) (omega arith) (omega arith) (omega arith) (omega arith) (omega arith)
 
@@ -212,6 +223,15 @@ entries-all n zero b p e c = absurd (omega arith)
 entries-all n (suc R) b p e c =
     let m : suc R - 1 ≡ R = omega arith in
     from-start entryAt 0 1 R (n / 2) (n / 2) b (e ∙ ap (firstBand entryAt 0 1) m) c ∙ entries-are 0 (suc R) n n
+
+pub tetrolets-all : (n R : ℕ) → entriesLeft (record { level = 1; left = R; band = 1; row = 0; col = 0; height = n / 2; width = n / 2; low = 1; first = 1 }) ≡ tetroletPlaces R n n
+unfolding leftBehind placesFrom
+tetrolets-all n zero = refl
+tetrolets-all n (suc R) = from-start entryAt 1 1 R (n / 2) (n / 2) 1 (one R) (omega arith) ∙ tetrolets-are 0 (suc R) n n
+  where
+    one : (R : ℕ) → 1 ≡ firstBand entryAt 1 1 R
+    one zero = refl
+    one (suc R) = refl
 
 pub blocks-all : (n R : ℕ) → blocksLeft (record { level = 1; left = R; band = 3; row = 0; col = 0; height = n / 4; width = n / 4; low = 3; first = 3 }) ≡ blockPlaces R n n
 unfolding leftBehind blocksFrom

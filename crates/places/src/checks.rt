@@ -75,8 +75,8 @@ pub fn all_numbers(coverings: &[u8]) -> bool
     true
 }
 
-// 4 to the power r.
-fn power(r: u32) -> u64
+// 4 to the power r. Two wrong answers that the contract rules out: 0 for r 0, and 4 times r.
+pub fn power(r: u32) -> u64
     requires { ⌜ r ≤ 9 ⌝ }
     ensures { λ p. ⌜ p ≡ 4 ^ r ⌝ }
 {

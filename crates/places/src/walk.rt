@@ -3,7 +3,7 @@ ghost use mathlib.Core.Path.{_≡_};
 ghost use mathlib.Core.Bool.{true};
 ghost use Prim.Native.Nat.{ℕ, _<_};
 ghost use Rattle.pyramid.specs.Sides.{isSide, isDepth};
-ghost use Rattle.pyramid.specs.Places.{planePlaces, blockPlaces};
+ghost use Rattle.pyramid.specs.Places.{planePlaces, tetroletPlaces, blockPlaces};
 ghost use Rattle.places.specs.Walk.{Inside, Stepped, entriesLeft, blocksLeft};
 
 pub struct Walk {
@@ -133,6 +133,25 @@ pub fn first_entry(n: u32, levels: u32) -> Walk
         height: n / 2,
         width: n / 2,
         low: 0,
+        first: 1,
+    }
+}
+
+// The walk along the tetrolet entries of a plane: those of bands 1 to 3.
+pub fn first_tetrolet(n: u32, levels: u32) -> Walk
+    requires { ⌜ (isSide n ≡ true) × (isDepth levels n n ≡ true) ⌝ }
+    ensures { λ r. ⌜ Inside n r ⌝ }
+    ensures { λ r. ⌜ entriesLeft r ≡ tetroletPlaces levels n n ⌝ }
+{
+    Walk {
+        level: 1,
+        left: levels,
+        band: 1,
+        row: 0,
+        col: 0,
+        height: n / 2,
+        width: n / 2,
+        low: 1,
         first: 1,
     }
 }

@@ -1,0 +1,118 @@
+-- A pass by keep's limit leaves what keep leaves, and a pass by 2 ^ R times the threshold what threshold leaves. Assumes nothing.
+use mathlib.Core.Path.{_≡_, refl, sym, ap, _∙_, subst⁻¹}
+use mathlib.Core.Bool.{Bool, true, false, cond, _&&_, _||_}
+use mathlib.Core.List.{List}
+use Prim.Native.Nat.{ℕ, zero, suc, _+_, _*_, _-_, _^_, _<_, _≤_}
+use native.Mathlib.Nat.{mul-le-mul-right, one-le-pow, zero-mul}
+use native.Mathlib.Decide.{decLt}
+use native.Mathlib.Omega.{arith}
+use lib.Dec.{eqb, ltb, leb}
+use lib.IntN.{ℤ, pos, negsuc, natAbs}
+use lib.ListN.{length, getD}
+use lib.Pow.{pow-add}
+use borrow.Author.Tests.{eq-eqb, ne-eqb, le-leb, lt-leb}
+use Rattle.integers.proofs.Tests.{true-at, false-at}
+use Rattle.pyramid.specs.Plane.{Image, Fits}
+use Rattle.pyramid.specs.Places.{tetroletPlaces, at}
+use Rattle.pyramid.specs.Slices.{imageOf}
+use Rattle.pyramid.proofs.Places.{none, places-levels}
+use Rattle.pyramid.proofs.Number.{places-count}
+use Rattle.quota.specs.Quota.{ranks, stays, passes, keptOf, cutOf}
+use Rattle.quota.proofs.Demand.{q-at, q-length}
+use Rattle.keeping.specs.Sifting.{above, ties, Limit, sifts, siftedOf}
+use Rattle.keeping.proofs.Limits.{keep-by, ties-few}
+use Rattle.keeping.proofs.Passing.{same-selected}
+
+pub kept-is : (R n : ℕ) → Fits R n n → (p : List ℤ) (K t over : ℕ) → Limit (ranks R n n (imageOf n p)) K t → over ≡ above (ranks R n n (imageOf n p)) t → siftedOf R n t (K - over) p ≡ keptOf R n n K p
+kept-is R n f p K t over h e =
+    ap (λ (x : ℕ). siftedOf R n t (K - x) p) e
+    ∙ same-selected R n f (sifts t (K - above q t) q) (stays K q) P
+    (λ m l. ap (λ (b : Bool). cond b (at P (getD (tetroletPlaces R n n) m none)) (pos 0)) (keep-by q K t h m (subst⁻¹ (λ (x : ℕ). m < x) (q-length R n n f 0 P) l)))
+  where
+    P : Image
+    P = imageOf n p
+
+    q : List ℕ
+    q = ranks R n n P
+
+-- ---- the threshold
+
+-- a comparison of multiples
+times : (x a y : ℕ) → 1 ≤ y → x < a → x * y < a * y
+times x a y l h = let z = mul-le-mul-right y h in omega arith
+
+module _ (x a y c d : ℕ) (l : 1 ≤ y) (h : c < d) where
+  abbrev rank : ℕ
+  rank = a * y
+
+  abbrev stay : Bool
+  stay = ltb 0 rank && (ltb (x * y) rank || (eqb (x * y) rank && ltb c d))
+
+  one-test : 0 < a → stay ≡ leb x a
+  one-test p = go (decLt x a) (decLt a x)
+    where
+      some : 0 < rank
+      some = let z = times 0 a y l p in omega arith
+
+      go : Dec (x < a) → Dec (a < x) → stay ≡ leb x a
+      go (yes q) r = rw (true-at 0 rank some, true-at (x * y) rank (times x a y l q), le-leb x a (omega arith)) refl
+      go (no q) (yes r) = let z = times a x y l r in rw (true-at 0 rank some, false-at (x * y) rank (omega arith), ne-eqb (x * y) rank (omega arith), lt-leb x a r) refl
+      go (no q) (no r) =
+          let e : x ≡ a = omega arith in
+          let g : x * y ≡ a * y = ap (λ (z : ℕ). z * y) e in
+          rw (true-at 0 rank some, false-at (x * y) rank (omega arith), eq-eqb (x * y) rank g, true-at c d h, le-leb x a (omega arith)) refl
+
+pub cut-is : (R n : ℕ) → Fits R n n → (p : List ℤ) (T t left : ℕ) → t ≡ T * 2 ^ R → left ≡ n * n → siftedOf R n t left p ≡ cutOf R n n T p
+cut-is R n f p T t left e g =
+    (λ i. siftedOf R n (e i) (g i) p)
+    ∙ same-selected R n f (sifts (T * 2 ^ R) (n * n) q) (λ m. passes T P (getD (tetroletPlaces R n n) m none)) P one
+  where
+    P : Image
+    P = imageOf n p
+
+    q : List ℕ
+    q = ranks R n n P
+
+    zero-abs : (z : ℤ) → natAbs z ≡ 0 → z ≡ pos 0
+    zero-abs (pos m) e = ap pos e
+    zero-abs (negsuc m) e = absurd (omega arith)
+
+    same : (z : ℤ) (a b : Bool) → (0 < natAbs z → a ≡ b) → cond a z (pos 0) ≡ cond b z (pos 0)
+    same z a b h = go (decLt 0 (natAbs z))
+      where
+        both : (a b : Bool) → z ≡ pos 0 → cond a z (pos 0) ≡ cond b z (pos 0)
+        both true true e = refl
+        both true false e = e
+        both false true e = sym e
+        both false false e = refl
+
+        go : Dec (0 < natAbs z) → cond a z (pos 0) ≡ cond b z (pos 0)
+        go (yes l) = ap (λ (b : Bool). cond b z (pos 0)) (h l)
+        go (no l) = both a b (zero-abs z (omega arith))
+
+    one : (m : ℕ) → m < length (tetroletPlaces R n n)
+        → cond (sifts (T * 2 ^ R) (n * n) q m) (at P (getD (tetroletPlaces R n n) m none)) (pos 0) ≡ cond (passes T P (getD (tetroletPlaces R n n) m none)) (at P (getD (tetroletPlaces R n n) m none)) (pos 0)
+    one m l = same z (sifts (T * 2 ^ R) (n * n) q m) (leb (T * 2 ^ v) (natAbs z)) (λ h.
+        (λ i. ltb 0 (r i) && (ltb (level i) (r i) || (eqb (level i) (r i) && ltb (ties q (T * 2 ^ R) m) (n * n))))
+        ∙ one-test (T * 2 ^ v) (natAbs z) (2 ^ (R - v)) (ties q (T * 2 ^ R) m) (n * n) (one-le-pow (R - v) 2 (omega arith)) few h)
+      where
+        z : ℤ
+        z = at P (getD (tetroletPlaces R n n) m none)
+
+        v : ℕ
+        v = (getD (tetroletPlaces R n n) m none) .level
+
+        r : getD q m 0 ≡ natAbs z * 2 ^ (R - v)
+        r = q-at R n n f 0 P m l
+
+        few : ties q (T * 2 ^ R) m < n * n
+        few = omega (arith, ties-few q (T * 2 ^ R) m, places-count 0 R n n f)
+
+        level : T * 2 ^ R ≡ T * 2 ^ v * 2 ^ (R - v)
+        level = let b = places-levels 0 R R n n (omega arith) m l in go (2 ^ v) (2 ^ (R - v)) (ap (λ (x : ℕ). 2 ^ x) (whole v (b .1)) ∙ pow-add 2 v (R - v))
+          where
+            whole : (v : ℕ) → v ≤ R → R ≡ v + (R - v)
+            whole v h = omega arith
+
+            go : (a b : ℕ) → 2 ^ R ≡ a * b → T * 2 ^ R ≡ T * a * b
+            go a b e = rw e (omega arith)

@@ -1,0 +1,11 @@
+-- `places::walk::first_tetrolet` meets its contract. Assumes nothing.
+use Rattle.places.proofs.Sides.{passed}
+use Rattle.places.proofs.Steps.{tetrolet-start, tetrolets-all}
+use Rattle.places.proofs.walk.first_tetrolet.Statement.{statement}
+use Rattle.places.proofs.walk.first_tetrolet.Tie as tie
+
+returns : tie.Need-returns
+returns c = let q = passed (c .args .n) (c .args .levels) (c .pre .0) (c .pre .1) in (tetrolet-start (c .args .n) (c .args .levels) q, tetrolets-all (c .args .n) (c .args .levels))
+
+pub first-tetrolet-spec : {M : Type 1} → statement M
+first-tetrolet-spec = tie.close (tie.spec returns)
