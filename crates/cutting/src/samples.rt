@@ -85,5 +85,8 @@ pub fn read_samples(s: &[u8], at: usize, n: usize, samples: &mut [u16]) -> bool
     let Past::To(end) = read_rows(s, p, n, samples) else {
         return false;
     };
-    s.len() <= end
+    if end < s.len() {
+        return false;
+    }
+    true
 }
