@@ -3,7 +3,7 @@ use mathlib.Core.Path.{_≡_}
 use mathlib.Core.Bool.{Bool, true, false, not}
 use mathlib.Core.List.{List, [], _∷_, _++_}
 use mathlib.Core.Option.{Option, none, some}
-use Prim.Native.Nat.{ℕ, _*_, _-_, _/_, _%_, _^_}
+use Prim.Native.Nat.{ℕ, _*_, _/_, _%_}
 use lib.Dec.{ltb}
 use lib.IntN.{ℤ}
 use lib.ListN.{length, getD, drop}
@@ -12,14 +12,11 @@ use Rattle.pyramid.specs.Sides.{isSide, isDepth}
 use Rattle.pyramid.specs.Slices.{planeOf, coversOf}
 use Rattle.quota.specs.Quota.{keptOf}
 use Rattle.coder.specs.Entries.{isSample}
+use Rattle.keeping.specs.Entries.{quotaLimit}
 use Rattle.text.specs.Text.{Parsed, bad, got, sections, parse}
 use Rattle.text.specs.Lines.{cellAt}
 use Rattle.sheet.specs.Sheet.{sheetText}
 use Rattle.cutting.specs.Forms.{headerForm, samplesForm, refusalText}
-
--- Document 01, refusal 7: "K over N^2 - N^2/4^R".
-abbrev pub quotaLimit : ℕ → ℕ → ℕ
-quotaLimit n R = n * n - n * n / 4 ^ R
 
 -- One check: the refusal with the number m where its condition holds, and else what the further checks give.
 abbrev pub printIf : Bool → ℕ → List ℕ → List ℕ
