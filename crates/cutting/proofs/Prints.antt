@@ -7,7 +7,7 @@ use Prim.Native.Nat.{ℕ, _<_, _≤_}
 use native.Mathlib.Omega.{arith}
 use lib.Dec.{ltb}
 use lib.IntN.{ℤ}
-use lib.ListN.{length, getD, drop}
+use lib.ListN.{length, getD, drop, length-append}
 use borrow.Author.Tests.{lt-ltb, le-ltb}
 use Rattle.pyramid.specs.Sides.{isSide, isDepth}
 use Rattle.text.specs.Text.{bad, sections, parse}
@@ -77,3 +77,7 @@ module _ (t : List ℕ) where
       pub follows : isSide (h .side) ≡ true → h .side ≤ 32 → isDepth (h .levels) (h .side) (h .side) ≡ true
           → cutterText t ≡ samplesText (h .side) (h .levels) (h .quota) (parse (samplesForm (h .side)) (drop (h .next) t))
       follows a b c = sizes ∙ size-good (h .side) (h .levels) (h .quota) (drop (h .next) t) a b c
+
+-- what is printed stands in the slice
+pub within : {t old new : List ℕ} {m : ℕ} → Printed t old new m → m ≤ length new
+within {t} {old} {new} {m} h = omega (arith, h .size, ap length (h .slice), length-append t (drop (length t) old))
