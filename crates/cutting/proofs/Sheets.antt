@@ -1,0 +1,197 @@
+-- What the three entries answer on a picture, and what is then printed. Assumes nothing.
+use mathlib.Core.Path.{_≡_, refl, sym, ap, _∙_, subst}
+use mathlib.Core.Bool.{Bool, true, false, not}
+use mathlib.Core.List.{List, [], _∷_, _++_, map}
+use Prim.Native.Nat.{ℕ, zero, suc, _*_, _<_, _≤_}
+use native.Mathlib.Omega.{arith}
+use lib.Dec.{T, leb, ltb, le→leb}
+use lib.IntN.{ℤ}
+use lib.ListN.{length, getD, drop}
+use borrow.Author.Tests.{eq-eqb, le-ltb}
+use Rattle.integers.specs.Lists.{every}
+use Rattle.integers.proofs.Tests.{is-true, both, every-of}
+use Rattle.refusals.specs.Refusal.{numberOf, answerOf, countedOf, countOf, refuseIf, afterCall}
+use Rattle.refusals.specs.declared.Refusal.{Refusal}
+use Rattle.refusals.specs.declared.Refusal.the-variants.{Side, Depth, Frame, Sample, Covering, Coefficient, Quota, Threshold, Text, Buffer, Sequence, Bench}
+use Rattle.refusals.specs.declared.Answer.{Answer}
+use Rattle.refusals.specs.declared.Answer.the-variants.{Done, Refused}
+use Rattle.refusals.specs.declared.Counted.{Counted}
+use Rattle.refusals.specs.declared.Counted.the-variants.{Count, Refused as Rejected}
+use Rattle.coverings.specs.Entry.{isNumber}
+use Rattle.pyramid.specs.Plane.{Fits, allBlocks}
+use Rattle.pyramid.specs.Ranges.{inRange}
+use Rattle.pyramid.specs.Sides.{isSide, isDepth}
+use Rattle.pyramid.specs.Slices.{imageOf, pictureOf, planeOf, coversOf}
+use Rattle.pyramid.proofs.Accepted.{plane-accepted}
+use Rattle.pyramid.proofs.Choose.{covers-length, covers-numbers}
+use Rattle.pyramid.proofs.Slices.{slice-length}
+use Rattle.places.proofs.Sides.{passed}
+use Rattle.quota.specs.Quota.{keptOf}
+use Rattle.quota.proofs.Accepted.{kept-accepted}
+use Rattle.coder.specs.Entries.{isSample, decomposeRefusal, Decomposed}
+use Rattle.coder.proofs.Gates.{small-samples}
+use Rattle.keeping.specs.Entries.{quotaLimit, keepRefusal, Kept}
+use Rattle.sheet.specs.Sheet.{sheetText, writeRefusal, WriteAnswered}
+use Rattle.cutting.specs.Forms.{refusalText}
+use Rattle.cutting.specs.Cutter.{pictureText, Printed}
+use Rattle.cutting.specs.Rows.{heldTo}
+use Rattle.cutting.proofs.Bounds.{sheet-bound}
+use Rattle.cutting.proofs.Turned.{same-samples, held-same}
+
+not-zero : (r : Refusal) → numberOf r ≡ 0 → ⊥
+not-zero Side e = omega arith
+not-zero Depth e = omega arith
+not-zero Frame e = omega arith
+not-zero Sample e = omega arith
+not-zero Covering e = omega arith
+not-zero Coefficient e = omega arith
+not-zero Quota e = omega arith
+not-zero Threshold e = omega arith
+not-zero Text e = omega arith
+not-zero Buffer e = omega arith
+not-zero Sequence e = omega arith
+not-zero Bench e = omega arith
+
+-- the last check of a call, by its answer
+refused-by : (r : Refusal) (t : Bool) (m : ℕ) → numberOf r ≡ refuseIf t m 0 → t ≡ true
+refused-by r true m e = refl
+refused-by r false m e = absurd (not-zero r e)
+
+passed-by : (t : Bool) (m : ℕ) → 0 ≡ refuseIf t (suc m) 0 → t ≡ false
+passed-by true m e = absurd (omega arith)
+passed-by false m e = refl
+
+is-not : (t : Bool) → not t ≡ true → t ≡ false
+is-not true e = sym e
+is-not false e = refl
+
+is-so : (t : Bool) → not t ≡ false → t ≡ true
+is-so true e = refl
+is-so false e = sym e
+
+-- what is printed
+module _ (n R K : ℕ) (s : List ℕ) where
+  print-4 : every isSample s ≡ false → pictureText n R K s ≡ refusalText 4
+  unfolding pictureText
+  print-4 e = rw e
+
+  print-7 : every isSample s ≡ true → ltb (quotaLimit n R) K ≡ true → pictureText n R K s ≡ refusalText 7
+  unfolding pictureText
+  print-7 e h = rw (e, h)
+
+  print-sheet : every isSample s ≡ true → ltb (quotaLimit n R) K ≡ false → pictureText n R K s ≡ sheetText n R (keptOf R n n K (planeOf R n n s)) (coversOf R n n s)
+  unfolding pictureText
+  print-sheet e h = rw (e, h)
+
+pub held-text : (n R K : ℕ) (s : List ℕ) → pictureText n R K (map heldTo s) ≡ pictureText n R K s
+held-text n R K s = go (every isSample s) refl
+  where
+    go : (t : Bool) → every isSample s ≡ t → pictureText n R K (map heldTo s) ≡ pictureText n R K s
+    go true e = ap (pictureText n R K) (held-same s e)
+    go false e = print-4 n R K (map heldTo s) (same-samples s ∙ e) ∙ sym (print-4 n R K s e)
+
+-- a picture that passed
+module _ (n R : ℕ) (s : List ℕ) (a : isSide n ≡ true) (b : isDepth R n n ≡ true) (k : length s ≡ n * n) where
+  abbrev P : List ℤ
+  P = planeOf R n n s
+
+  abbrev C : List ℕ
+  C = coversOf R n n s
+
+  module _ (p : List ℤ) (c : List ℕ) (q : List ℤ) (kp : length p ≡ n * n) (kc : length c ≡ allBlocks R n n) (kq : length q ≡ n * n) where
+    decomposes : decomposeRefusal n R s p c q ≡ refuseIf (not (every isSample s)) 4 0
+    decomposes = rw (a, b, eq-eqb (length s) (n * n) k, eq-eqb (length p) (n * n) kp, eq-eqb (length c) (allBlocks R n n) kc, eq-eqb (length q) (n * n) kq)
+
+    pub bad-samples : {p′ q′ : List ℤ} {c′ : List ℕ} (r : Refusal) → Decomposed n R s p p′ c c′ q q′ (numberOf r) → every isSample s ≡ false
+    bad-samples r d = is-not (every isSample s) (refused-by r (not (every isSample s)) 4 (d .number ∙ decomposes))
+
+    pub good-samples : {p′ q′ : List ℤ} {c′ : List ℕ} → Decomposed n R s p p′ c c′ q q′ 0 → every isSample s ≡ true
+    good-samples d = is-so (every isSample s) (passed-by (not (every isSample s)) 3 (d .number ∙ decomposes))
+
+  module _ (g : every isSample s ≡ true) where
+    below : (i : ℕ) → i < n * n → getD s i 0 ≤ 4095
+    below = small-samples s g k
+
+    ranges : inRange R n n (imageOf n P) ≡ true
+    ranges = let q = passed n R a b in is-true (inRange R n n (imageOf n P)) (go R (q .fits) (q .some-level))
+      where
+        go : (r : ℕ) → Fits r n n → 1 ≤ r → T (inRange r n n (imageOf n (planeOf r n n s)))
+        go zero f l = absurd (omega arith)
+        go (suc r) f l = plane-accepted r n n f s below
+
+    kept-ranges : (K : ℕ) → inRange R n n (imageOf n (keptOf R n n K P)) ≡ true
+    kept-ranges K = let q = passed n R a b in is-true (inRange R n n (imageOf n (keptOf R n n K P))) (go R (q .fits) (q .some-level))
+      where
+        go : (r : ℕ) → Fits r n n → 1 ≤ r → T (inRange r n n (imageOf n (keptOf r n n K (planeOf r n n s))))
+        go zero f l = absurd (omega arith)
+        go (suc r) f l = kept-accepted r n n f s below K
+
+    numbers : every isNumber C ≡ true
+    numbers =
+        is-true (every isNumber C)
+        (every-of isNumber C 0
+        (λ i l. let m = covers-numbers R n n (pictureOf n s) i (rw (← covers-length R n n (pictureOf n s)) l) in both (leb 1 (getD C i 0)) (leb (getD C i 0) 117) (le→leb 1 _ (m .0)) (le→leb _ 117 (m .1))))
+
+    keeps : (K : ℕ) → keepRefusal n R P K ≡ refuseIf (ltb (quotaLimit n R) K) 7 0
+    keeps K = rw (a, b, eq-eqb (length P) (n * n) (slice-length n n _), ranges)
+
+    pub bad-quota : {p′ : List ℤ} (K : ℕ) (r : Refusal) → Kept n R P p′ K (Rejected r) → ltb (quotaLimit n R) K ≡ true
+    bad-quota K r d = refused-by r (ltb (quotaLimit n R) K) 7 (d .number ∙ keeps K)
+
+    pub good-quota : {p′ : List ℤ} (K m : ℕ) → Kept n R P p′ K (Count m) → ltb (quotaLimit n R) K ≡ false
+    good-quota K m d = passed-by (ltb (quotaLimit n R) K) 6 (d .number ∙ keeps K)
+
+    pub writes : n ≤ 32 → (K : ℕ) (out : List ℕ) → 65536 ≤ length out → writeRefusal n R (keptOf R n n K P) C out ≡ 0
+    writes l K out h =
+        let x = sheet-bound n R (keptOf R n n K P) C a b l in
+        rw (a, b, eq-eqb (length (keptOf R n n K P)) (n * n) (slice-length n n _), eq-eqb (length C) (allBlocks R n n) (covers-length R n n (pictureOf n s)), numbers, kept-ranges K, le-ltb (length out) (length (sheetText n R (keptOf R n n K P) C)) (omega arith))
+
+-- what the slices and the answers are, at each end of the function
+module _ (n R K : ℕ) (s : List ℕ) (a : isSide n ≡ true) (b : isDepth R n n ≡ true) (k : length s ≡ n * n) where
+  module _ (p : List ℤ) (c : List ℕ) (q : List ℤ) (kp : length p ≡ n * n) (kc : length c ≡ allBlocks R n n) (kq : length q ≡ n * n) (p′ : List ℤ) (c′ : List ℕ) (q′ : List ℤ) (o : Answer) (d : Decomposed n R s p p′ c c′ q q′ (answerOf o)) where
+    pub end-4 : (r : Refusal) → o ≡ Refused r → (old new : List ℕ) (m : ℕ) → Printed (refusalText 4) old new m → Printed (pictureText n R K s) old new m
+    end-4 r e old new m h =
+        subst (λ (t : List ℕ). Printed t old new m)
+        (sym (print-4 n R K s (bad-samples n R s a b k p c q kp kc kq r (subst (λ (x : Answer). Decomposed n R s p p′ c c′ q q′ (answerOf x)) e d)))) h
+
+    module _ (e : o ≡ Done) where
+      done : Decomposed n R s p p′ c c′ q q′ 0
+      done = subst (λ (x : Answer). Decomposed n R s p p′ c c′ q q′ (answerOf x)) e d
+
+      good : every isSample s ≡ true
+      good = good-samples n R s a b k p c q kp kc kq done
+
+      module _ (p″ : List ℤ) (u : Counted) (v : Kept n R p′ p″ K u) where
+        kept : (x : Counted) → u ≡ x → Kept n R (planeOf R n n s) p″ K x
+        kept x h = subst (λ (y : List ℤ). Kept n R y p″ K x) (done .planes) (subst (λ (y : Counted). Kept n R p′ p″ K y) h v)
+
+        pub end-7 : (r : Refusal) → u ≡ Rejected r → (old new : List ℕ) (m : ℕ) → Printed (refusalText 7) old new m → Printed (pictureText n R K s) old new m
+        end-7 r h old new m i =
+            subst (λ (t : List ℕ). Printed t old new m) (sym (print-7 n R K s good (bad-quota n R s a b k good K r (kept (Rejected r) h)))) i
+
+        module _ (m₀ : ℕ) (h : u ≡ Count m₀) (l : n ≤ 32) (old new : List ℕ) (room : 65536 ≤ length old) (w : Counted) (z : WriteAnswered n R p″ c′ old new w) where
+          abbrev Q : List ℤ
+          Q = keptOf R n n K (planeOf R n n s)
+
+          abbrev D : List ℕ
+          D = coversOf R n n s
+
+          accepted : writeRefusal n R Q D old ≡ 0
+          accepted = writes n R s a b k good l K old room
+
+          wrote : (x : Counted) → w ≡ x → WriteAnswered n R Q D old new x
+          wrote x i =
+              subst (λ (y : List ℤ). WriteAnswered n R y D old new x) (kept (Count m₀) h .planes)
+              (subst (λ (y : List ℕ). WriteAnswered n R p″ y old new x) (done .covers) (subst (λ (y : Counted). WriteAnswered n R p″ c′ old new y) i z))
+
+          pub end-10 : (r : Refusal) → w ≡ Rejected r → ⊥
+          end-10 r i = not-zero r (wrote (Rejected r) i .number ∙ accepted)
+
+          pub end-sheet : (m : ℕ) → w ≡ Count m → Printed (pictureText n R K s) old new m
+          end-sheet m i =
+              let x = wrote (Count m) i in
+              subst (λ (t : List ℕ). Printed t old new m) (sym (print-sheet n R K s good (good-quota n R s a b k good K m₀ (kept (Count m₀) h))))
+              (record {
+                size = x .count ∙ ap (λ (y : ℕ). afterCall y (length (sheetText n R Q D)) 0) accepted;
+                slice = x .slice ∙ ap (λ (y : ℕ). afterCall y (sheetText n R Q D ++ drop (length (sheetText n R Q D)) old) old) accepted;
+              })

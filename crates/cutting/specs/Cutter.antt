@@ -1,0 +1,62 @@
+-- What the cutter prints for an input. Assumes nothing.
+use mathlib.Core.Path.{_≡_}
+use mathlib.Core.Bool.{Bool, true, false, not}
+use mathlib.Core.List.{List, [], _∷_, _++_}
+use mathlib.Core.Option.{Option, none, some}
+use Prim.Native.Nat.{ℕ, _*_, _/_, _%_}
+use lib.Dec.{ltb}
+use lib.IntN.{ℤ}
+use lib.ListN.{length, getD, drop}
+use Rattle.integers.specs.Lists.{tabulate, every}
+use Rattle.pyramid.specs.Sides.{isSide, isDepth}
+use Rattle.pyramid.specs.Slices.{planeOf, coversOf}
+use Rattle.quota.specs.Quota.{keptOf}
+use Rattle.coder.specs.Entries.{isSample}
+use Rattle.keeping.specs.Entries.{quotaLimit}
+use Rattle.text.specs.Text.{Parsed, bad, got, sections, parse}
+use Rattle.text.specs.Lines.{cellAt}
+use Rattle.sheet.specs.Sheet.{sheetText}
+use Rattle.cutting.specs.Forms.{headerForm, samplesForm, refusalText}
+
+-- One check: the refusal with the number m where its condition holds, and else what the further checks give.
+abbrev pub printIf : Bool → ℕ → List ℕ → List ℕ
+printIf true m rest = refusalText m
+printIf false m rest = rest
+
+-- "N rows of N values left to right"; samples are "stored down columns", so the one of row y, column x is at x * n + y.
+unfoldable pub pictureIn : ℕ → List (List ℤ) → List ℕ
+pictureIn n rows = tabulate (n * n) (λ k. cellAt (getD rows (k % n) []) (k / n))
+
+-- Document 01: "cutter .. 4 7"; and else it "decomposes, keeps, and prints the sheet", here of the picture s.
+unfoldable pub pictureText : ℕ → ℕ → ℕ → List ℕ → List ℕ
+pictureText n R K s =
+    printIf (not (every isSample s)) 4
+    (printIf (ltb (quotaLimit n R) K) 7
+    (sheetText n R (keptOf R n n K (planeOf R n n s)) (coversOf R n n s)))
+
+-- "9 on all that follows" the header: the rows, where the rest of the text holds them and nothing else.
+unfoldable pub samplesText : ℕ → ℕ → ℕ → Option (List (List (List ℤ))) → List ℕ
+samplesText n R K none = refusalText 9
+samplesText n R K (some lines) = pictureText n R K (pictureIn n (getD lines 0 []))
+
+-- "1 12 2", for the header's side n, levels R and quota K and the bytes after it.
+unfoldable pub sizesText : ℕ → ℕ → ℕ → List ℕ → List ℕ
+sizesText n R K rest =
+    printIf (not (isSide n)) 1
+    (printIf (ltb 32 n) 12
+    (printIf (not (isDepth R n n)) 2
+    (samplesText n R K (parse (samplesForm n) rest))))
+
+-- "9 on the header (its first two lines)".
+unfoldable pub headerText : Parsed (List (List (List ℤ))) → List ℕ
+headerText bad = refusalText 9
+headerText (got lines rest) = let h = getD (getD lines 0 []) 0 [] in sizesText (cellAt h 0) (cellAt h 1) (cellAt h 2) rest
+
+-- "Input over 65,536 bytes is 9, before all else."
+unfoldable pub cutterText : List ℕ → List ℕ
+cutterText t = printIf (ltb 65536 (length t)) 9 (headerText (sections headerForm t))
+
+-- A text at the front of a slice: n is its length, and the bytes after it are as they were.
+pub record Printed (t old new : List ℕ) (n : ℕ) : Type 0 where
+  pub size : n ≡ length t
+  pub slice : new ≡ t ++ drop (length t) old

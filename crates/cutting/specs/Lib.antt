@@ -1,0 +1,4 @@
+pub mod Forms
+pub mod Cutter
+pub mod Header
+pub mod Rows
