@@ -135,10 +135,10 @@ module _ (n R : ℕ) (s : List ℕ) (a : isSide n ≡ true) (b : isDepth R n n �
     keeps : (K : ℕ) → keepRefusal n R P K ≡ refuseIf (ltb (quotaLimit n R) K) 7 0
     keeps K = rw (a, b, eq-eqb (length P) (n * n) (slice-length n n _), ranges)
 
-    pub bad-quota : {p′ : List ℤ} (K : ℕ) (r : Refusal) → Kept n R P p′ K (Rejected r) → ltb (quotaLimit n R) K ≡ true
+    pub bad-quota : {p′ : List ℤ} (K : ℕ) (r : Refusal) → Kept n R P p′ K (numberOf r) 0 → ltb (quotaLimit n R) K ≡ true
     bad-quota K r d = refused-by r (ltb (quotaLimit n R) K) 7 (d .number ∙ keeps K)
 
-    pub good-quota : {p′ : List ℤ} (K m : ℕ) → Kept n R P p′ K (Count m) → ltb (quotaLimit n R) K ≡ false
+    pub good-quota : {p′ : List ℤ} (K m : ℕ) → Kept n R P p′ K 0 m → ltb (quotaLimit n R) K ≡ false
     good-quota K m d = passed-by (ltb (quotaLimit n R) K) 6 (d .number ∙ keeps K)
 
     pub writes : n ≤ 32 → (K : ℕ) (out : List ℕ) → 65536 ≤ length out → writeRefusal n R (keptOf R n n K P) C out ≡ 0
@@ -161,15 +161,15 @@ module _ (n R K : ℕ) (s : List ℕ) (a : isSide n ≡ true) (b : isDepth R n n
       good : every isSample s ≡ true
       good = good-samples n R s a b k p c q kp kc kq done
 
-      module _ (p″ : List ℤ) (u : Counted) (v : Kept n R p′ p″ K u) where
-        kept : (x : Counted) → u ≡ x → Kept n R (planeOf R n n s) p″ K x
-        kept x h = subst (λ (y : List ℤ). Kept n R y p″ K x) (done .planes) (subst (λ (y : Counted). Kept n R p′ p″ K y) h v)
+      module _ (p″ : List ℤ) (u : Counted) (v : Kept n R p′ p″ K (countedOf u) (countOf u)) where
+        kept : (x : Counted) → u ≡ x → Kept n R (planeOf R n n s) p″ K (countedOf x) (countOf x)
+        kept x h = subst (λ (y : List ℤ). Kept n R y p″ K (countedOf x) (countOf x)) (done .planes) (subst (λ (y : Counted). Kept n R p′ p″ K (countedOf y) (countOf y)) h v)
 
         pub end-7 : (r : Refusal) → u ≡ Rejected r → (old new : List ℕ) (m : ℕ) → Printed (refusalText 7) old new m → Printed (pictureText n R K s) old new m
         end-7 r h old new m i =
             subst (λ (t : List ℕ). Printed t old new m) (sym (print-7 n R K s good (bad-quota n R s a b k good K r (kept (Rejected r) h)))) i
 
-        module _ (m₀ : ℕ) (h : u ≡ Count m₀) (l : n ≤ 32) (old new : List ℕ) (room : 65536 ≤ length old) (w : Counted) (z : WriteAnswered n R p″ c′ old new w) where
+        module _ (m₀ : ℕ) (h : u ≡ Count m₀) (l : n ≤ 32) (old new : List ℕ) (room : 65536 ≤ length old) (w : Counted) (z : WriteAnswered n R p″ c′ old new (countedOf w) (countOf w)) where
           abbrev Q : List ℤ
           Q = keptOf R n n K (planeOf R n n s)
 
@@ -179,10 +179,10 @@ module _ (n R K : ℕ) (s : List ℕ) (a : isSide n ≡ true) (b : isDepth R n n
           accepted : writeRefusal n R Q D old ≡ 0
           accepted = writes n R s a b k good l K old room
 
-          wrote : (x : Counted) → w ≡ x → WriteAnswered n R Q D old new x
+          wrote : (x : Counted) → w ≡ x → WriteAnswered n R Q D old new (countedOf x) (countOf x)
           wrote x i =
-              subst (λ (y : List ℤ). WriteAnswered n R y D old new x) (kept (Count m₀) h .planes)
-              (subst (λ (y : List ℕ). WriteAnswered n R p″ y old new x) (done .covers) (subst (λ (y : Counted). WriteAnswered n R p″ c′ old new y) i z))
+              subst (λ (y : List ℤ). WriteAnswered n R y D old new (countedOf x) (countOf x)) (kept (Count m₀) h .planes)
+              (subst (λ (y : List ℕ). WriteAnswered n R p″ y old new (countedOf x) (countOf x)) (done .covers) (subst (λ (y : Counted). WriteAnswered n R p″ c′ old new (countedOf y) (countOf y)) i z))
 
           pub end-10 : (r : Refusal) → w ≡ Rejected r → ⊥
           end-10 r i = not-zero r (wrote (Rejected r) i .number ∙ accepted)
