@@ -1,12 +1,12 @@
 -- A sheet of side 32 or less has at most 65,536 bytes. Assumes nothing.
-use mathlib.Core.Path.{_≡_, refl, sym, ap, _∙_}
+use mathlib.Core.Path.{_≡_, ap}
 use mathlib.Core.Bool.{Bool, true, false, cond}
-use mathlib.Core.List.{List, [], _∷_, _++_}
-use Prim.Native.Nat.{ℕ, zero, suc, _+_, _*_, _<_, _≤_}
+use mathlib.Core.List.{List, [], _∷_}
+use Prim.Native.Nat.{ℕ, zero, suc, _+_, _*_, _≤_}
 use native.Mathlib.Omega.{arith}
 use native.Mathlib.Nat.{mul-le-mul}
 use lib.Dec.{T, leb, leb→le}
-use lib.IntN.{ℤ, pos}
+use lib.IntN.{ℤ}
 use lib.ListN.{length, length-append}
 use Rattle.integers.proofs.Tests.{upTo, upTo-at}
 use Rattle.pyramid.specs.Plane.{Image, allBlocks}
@@ -14,8 +14,7 @@ use Rattle.pyramid.specs.Places.{Place, BlockPlace, at, planePlaces, blockPlace
 use Rattle.pyramid.specs.Sides.{isSide, isDepth}
 use Rattle.pyramid.specs.Slices.{imageOf}
 use Rattle.places.proofs.Sides.{Passed, passed}
-use Rattle.text.specs.Text.{rowsText, rowText, digits, valueText}
-use Rattle.text.specs.Write.{fourText, fiveText}
+use Rattle.text.specs.Text.{rowsText, rowText}
 use Rattle.text.proofs.Stamp.{four-row, five-row, four-bound, five-length, value-length, width-le}
 use Rattle.sheet.specs.Rows.{isZero, entryRow, withRow, blockRow, blockRows, entryRows}
 use Rattle.sheet.specs.Sheet.{sheetText}

@@ -1,11 +1,10 @@
 -- The header of the cutter's input, part by part. Assumes nothing.
-use mathlib.Core.Path.{_≡_, refl, sym, ap, _∙_}
+use mathlib.Core.Path.{_≡_}
 use mathlib.Core.List.{List, [], _∷_}
 use Prim.Native.Nat.{ℕ}
-use lib.IntN.{pos}
-use lib.ListN.{length, drop}
+use lib.ListN.{drop}
 use Rattle.text.specs.Bytes.{bytes}
-use Rattle.text.specs.Text.{bad, got, plain, rows, times, skip, sections}
+use Rattle.text.specs.Text.{bad, plain, rows, times, skip, sections}
 use Rattle.text.specs.At.{sizeAt}
 use Rattle.text.specs.declared.number.Size.the-variants.{Of, Bad}
 use Rattle.text.proofs.Cursor.{size-at}

@@ -1,11 +1,10 @@
 -- What the cutter prints, by what its checks found. Assumes nothing.
-use mathlib.Core.Path.{_≡_, refl, sym, ap, _∙_, subst}
-use mathlib.Core.Bool.{Bool, true, false, not}
-use mathlib.Core.List.{List, [], _∷_, map}
-use mathlib.Core.Option.{Option, none, some}
+use mathlib.Core.Path.{_≡_, sym, ap, _∙_, subst}
+use mathlib.Core.Bool.{true, false}
+use mathlib.Core.List.{List, []}
+use mathlib.Core.Option.{Option, none}
 use Prim.Native.Nat.{ℕ, _<_, _≤_}
 use native.Mathlib.Omega.{arith}
-use lib.Dec.{ltb}
 use lib.IntN.{ℤ}
 use lib.ListN.{length, getD, drop, length-append}
 use borrow.Author.Tests.{lt-ltb, le-ltb}
@@ -14,7 +13,7 @@ use Rattle.text.specs.Text.{bad, sections, parse}
 use Rattle.cutting.specs.Forms.{headerForm, samplesForm, refusalText}
 use Rattle.cutting.specs.Cutter.{pictureText, pictureIn, samplesText, sizesText, headerText, cutterText, Printed}
 use Rattle.cutting.specs.Header.{Headed}
-use Rattle.cutting.specs.Rows.{heldTo, Stored}
+use Rattle.cutting.specs.Rows.{Stored}
 use Rattle.cutting.specs.declared.header.Heading.{Heading}
 use Rattle.cutting.proofs.Sheets.{held-text}
 

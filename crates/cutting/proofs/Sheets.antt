@@ -1,7 +1,7 @@
 -- What the three entries answer on a picture, and what is then printed. Assumes nothing.
 use mathlib.Core.Path.{_≡_, refl, sym, ap, _∙_, subst}
 use mathlib.Core.Bool.{Bool, true, false, not}
-use mathlib.Core.List.{List, [], _∷_, _++_, map}
+use mathlib.Core.List.{List, _++_, map}
 use Prim.Native.Nat.{ℕ, zero, suc, _*_, _<_, _≤_}
 use native.Mathlib.Omega.{arith}
 use lib.Dec.{T, leb, ltb, le→leb}
@@ -10,7 +10,7 @@ use lib.ListN.{length, getD, drop}
 use borrow.Author.Tests.{eq-eqb, le-ltb}
 use Rattle.integers.specs.Lists.{every}
 use Rattle.integers.proofs.Tests.{is-true, both, every-of}
-use Rattle.refusals.specs.Refusal.{numberOf, answerOf, countedOf, countOf, refuseIf, afterCall}
+use Rattle.refusals.specs.Refusal.{numberOf, answerOf, refuseIf, afterCall}
 use Rattle.refusals.specs.declared.Refusal.{Refusal}
 use Rattle.refusals.specs.declared.Refusal.the-variants.{Side, Depth, Frame, Sample, Covering, Coefficient, Quota, Threshold, Text, Buffer, Sequence, Bench}
 use Rattle.refusals.specs.declared.Answer.{Answer}

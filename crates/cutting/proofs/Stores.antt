@@ -5,7 +5,7 @@ use Prim.Native.Nat.{ℕ, zero, suc, _+_, _*_, _-_, _<_, _≤_}
 use native.Mathlib.Omega.{arith}
 use borrow.Author.Tests.{le-leb, lt-leb}
 use lib.IntN.{ℤ, pos, natAbs}
-use lib.ListN.{length, drop, set}
+use lib.ListN.{drop, set}
 use Rattle.text.specs.Text.{Parsed, bad, got, andThen, plain, row, times, after}
 use Rattle.text.specs.At.{sizeAt}
 use Rattle.text.specs.declared.number.Size.the-variants.{Of, Bad}

@@ -9,15 +9,14 @@ use lib.Dec.{leb}
 use lib.IntN.{ℤ, pos, natAbs}
 use lib.ListN.{length, getD, set, length-set, length-map, List·getD-map}
 use lib.Seq.{ext-getD, getD-set-same, getD-set-other}
-use Rattle.integers.specs.Lists.{every, tabulate}
+use Rattle.integers.specs.Lists.{every}
 use Rattle.integers.proofs.Index.{index-bound, column-row, column-col}
 use Rattle.integers.proofs.Tabulate.{length-tabulate, getD-tabulate}
 use Rattle.integers.proofs.Tests.{both-true}
 use Rattle.coder.specs.Entries.{isSample}
 use Rattle.text.specs.Text.{FitsRow, FitsRows}
-use Rattle.text.specs.Lines.{cellAt}
 use Rattle.cutting.specs.Forms.{plains}
-use Rattle.cutting.specs.Cutter.{pictureIn}
+use Rattle.cutting.specs.Cutter.{sampleAt, pictureIn}
 use Rattle.cutting.specs.Rows.{heldTo, rowIn, rowsIn}
 
 -- rows of n values
@@ -99,11 +98,11 @@ rows-at n y (suc d) (r ∷ rs) out c b k l h f =
 
 length-picture : (n : ℕ) (rs : List (List ℤ)) → length (pictureIn n rs) ≡ n * n
 unfolding pictureIn
-length-picture n rs = length-tabulate (n * n) (λ k. cellAt (getD rs (k % n) []) (k / n))
+length-picture n rs = length-tabulate (n * n) (sampleAt n rs)
 
-picture-at : (n : ℕ) (rs : List (List ℤ)) (k : ℕ) → k < n * n → getD (pictureIn n rs) k 0 ≡ cellAt (getD rs (k % n) []) (k / n)
+picture-at : (n : ℕ) (rs : List (List ℤ)) (k : ℕ) → k < n * n → getD (pictureIn n rs) k 0 ≡ sampleAt n rs k
 unfolding pictureIn
-picture-at n rs k l = getD-tabulate (n * n) (λ k. cellAt (getD rs (k % n) []) (k / n)) 0 k l
+picture-at n rs k l = getD-tabulate (n * n) (sampleAt n rs) 0 k l
 
 positive : (n k : ℕ) → k < n * n → 0 < n
 positive zero k l = absurd (omega arith)

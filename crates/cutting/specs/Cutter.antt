@@ -1,7 +1,7 @@
 -- What the cutter prints for an input. Assumes nothing.
 use mathlib.Core.Path.{_≡_}
 use mathlib.Core.Bool.{Bool, true, false, not}
-use mathlib.Core.List.{List, [], _∷_, _++_}
+use mathlib.Core.List.{List, [], _++_}
 use mathlib.Core.Option.{Option, none, some}
 use Prim.Native.Nat.{ℕ, _*_, _/_, _%_}
 use lib.Dec.{ltb}
@@ -24,8 +24,11 @@ printIf true m rest = refusalText m
 printIf false m rest = rest
 
 -- "N rows of N values left to right"; samples are "stored down columns", so the one of row y, column x is at x * n + y.
+abbrev pub sampleAt : ℕ → List (List ℤ) → ℕ → ℕ
+sampleAt n rows k = cellAt (getD rows (k % n) []) (k / n)
+
 unfoldable pub pictureIn : ℕ → List (List ℤ) → List ℕ
-pictureIn n rows = tabulate (n * n) (λ k. cellAt (getD rows (k % n) []) (k / n))
+pictureIn n rows = tabulate (n * n) (sampleAt n rows)
 
 -- Document 01: "cutter .. 4 7"; and else it "decomposes, keeps, and prints the sheet", here of the picture s.
 unfoldable pub pictureText : ℕ → ℕ → ℕ → List ℕ → List ℕ

@@ -4,7 +4,7 @@ use mathlib.Core.List.{List, [], _∷_}
 use Prim.Native.Nat.{ℕ, _≤_}
 use lib.IntN.{pos}
 use lib.ListN.{length, drop}
-use Rattle.text.specs.Text.{bad, got, sections, limit}
+use Rattle.text.specs.Text.{bad, got, sections}
 use Rattle.cutting.specs.Forms.{headerForm}
 use Rattle.cutting.specs.declared.header.Heading.{Heading}
 use Rattle.cutting.specs.declared.header.Header.{Header}

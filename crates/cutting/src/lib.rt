@@ -46,6 +46,7 @@ fn print_sheet(
     let Counted::Count(_) = keeping::keep(side, levels, plane, quota) else {
         return put_refusal(out, 7);
     };
+    // Refused never: a sheet of side 32 or less has at most 65,536 bytes.
     let Counted::Count(n) = sheet::write(side, levels, plane, coverings, out) else {
         return put_refusal(out, 10);
     };

@@ -1,6 +1,5 @@
 -- `cutter::main` is safe and ends. Assumes nothing.
 use mathlib.Core.Path.{sym, subst}
-use native.Mathlib.Omega.{arith}
 use lib.ListN.{length}
 use lib.Seq.{length-take-le}
 use Rattle.cutting.proofs.Prints.{within}

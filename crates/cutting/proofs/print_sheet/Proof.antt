@@ -1,5 +1,4 @@
 -- `cutting::print_sheet` meets its contract: each end has what the answers before it say. Assumes nothing.
-use mathlib.Core.Path.{_≡_, refl, sym, ap, _∙_}
 use native.Mathlib.Omega.{arith}
 use Rattle.cutting.proofs.Sheets.{end-4, end-7, end-10, end-sheet}
 use borrow.Author.Needs.{needs}

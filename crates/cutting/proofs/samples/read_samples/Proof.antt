@@ -1,9 +1,7 @@
 -- `cutting::samples::read_samples` meets its contract. Assumes nothing.
-use mathlib.Core.Path.{_≡_, refl, sym, ap, _∙_}
-use mathlib.Core.List.{List}
-use Prim.Native.Nat.{ℕ, _<_}
+use mathlib.Core.Path.{_≡_, sym, ap, _∙_}
 use native.Mathlib.Omega.{arith}
-use lib.ListN.{length, drop, length-drop}
+use lib.ListN.{drop, length-drop}
 use Rattle.text.specs.Text.{got, times}
 use Rattle.text.proofs.Many.{SkipRead, skip-at, skip-none}
 use Rattle.cutting.specs.Forms.{plains}
