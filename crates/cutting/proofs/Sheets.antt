@@ -10,7 +10,7 @@ use lib.ListN.{length, getD, drop}
 use borrow.Author.Tests.{eq-eqb, le-ltb}
 use Rattle.integers.specs.Lists.{every}
 use Rattle.integers.proofs.Tests.{is-true, both, every-of}
-use Rattle.refusals.specs.Refusal.{numberOf, answerOf, refuseIf, afterCall}
+use Rattle.refusals.specs.Refusal.{numberOf, answerOf, countedOf, countOf, refuseIf, afterCall}
 use Rattle.refusals.specs.declared.Refusal.{Refusal}
 use Rattle.refusals.specs.declared.Refusal.the-variants.{Side, Depth, Frame, Sample, Covering, Coefficient, Quota, Threshold, Text, Buffer, Sequence, Bench}
 use Rattle.refusals.specs.declared.Answer.{Answer}
