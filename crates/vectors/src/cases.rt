@@ -1,5 +1,6 @@
 // The generated inputs. A case is a number, and this module says which side, levels and filling it stands for, so that a difference can be found
 // again from its number alone.
+use crate::safe::least;
 use crate::safe::over;
 use crate::safe::plus;
 use crate::safe::put_byte;
@@ -26,6 +27,11 @@ pub fn next(x: usize) -> usize {
 // The upper bits of a number of the sequence, which repeat less: below 32,768.
 pub fn upper(x: usize) -> usize {
     x / 65536
+}
+
+// A seed for the case c.
+pub fn mixed(c: usize) -> usize {
+    upper(next(next(c)))
 }
 
 // Sides 4, 8, 16 and 32, and sides that no picture has.
@@ -65,29 +71,29 @@ pub fn case_of(side: usize, levels: usize, kind: usize, seed: usize) -> Case {
     }
 }
 
-// The same case with slices of other lengths, which an entry refuses.
-pub fn with_lengths(k: Case, n: usize, b: usize) -> Case {
-    Case {
-        side: k.side,
-        levels: k.levels,
-        kind: k.kind,
-        seed: k.seed,
-        n: n,
-        b: b,
+// The same case, with side 16 for most of those of side 32, on which the second implementation is slow.
+pub fn smaller(k: Case, random: usize) -> Case {
+    if k.side != 32 {
+        return k;
     }
+    if random % 8 == 0 {
+        return k;
+    }
+    case_of(16, k.levels, k.kind, k.seed)
 }
 
-// A sample of a picture, at place i: a flat picture, a ramp, noise, a checker board of the two ends, faint noise with many equal costs, stripes with
+// A sample of a picture, at place i: a flat picture, a ramp, noise, checker boards of the two ends, faint noise with many equal costs, stripes with
 // noise, noise that is over 4,095 here and there, and a white picture with 4,096 at its last place.
 fn sample(k: Case, i: usize, random: usize) -> usize {
     let row = rest(i, k.side);
     let col = over(i, k.side);
+    let wide = plus(k.seed % 3, 1);
     let kind = k.kind;
     match kind {
-        0 => k.seed % 4096,
-        1 => plus(times(row, 37), times(col, 53)) % 4096,
+        0 => least(4095, k.seed % 5000),
+        1 => plus(times(row, k.seed % 97), times(col, k.seed % 89)) % 4096,
         2 => random % 4096,
-        3 => times(plus(row, col) % 2, 4095),
+        3 => times(plus(over(row, wide), over(col, wide)) % 2, 4095),
         4 => random % 3,
         5 => plus(times(row / 3 % 2, 2000), random % 50),
         6 => random % 4200,

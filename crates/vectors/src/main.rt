@@ -1,9 +1,12 @@
 // Compares the proved coder with the plain second implementation, which shares nothing with it, on many generated inputs. A line for each group: its
 // name, how many cases, how many of them both accept, and whether the two agree everywhere, in the answer and in all that stands in the slices after.
 mod cases;
+mod lists;
+mod marks;
 mod pictures;
 mod planes;
 mod safe;
+mod sheets;
 mod tally;
 
 use tally::Tally;
@@ -23,9 +26,20 @@ fn tell(name: &[u8], t: Tally) {
     io::write_all(1, b"\n");
 }
 
+// All groups. `words` are those that the second implementation finds by its own search.
+fn tell_all(words: &[u8]) {
+    tell(b"decompose", pictures::group(words));
+    tell(b"restore", planes::group(words));
+    tell(b"keep", marks::keep_group());
+    tell(b"threshold", marks::threshold_group());
+    tell(b"write", sheets::write_group());
+    tell(b"read", sheets::read_group());
+    tell(b"usage", lists::usage_group());
+    tell(b"word", lists::word_group(words));
+}
+
 fn main() {
     let mut words = [0u8; 1872];
     plain::tiles::list_words(&mut words);
-    tell(b"decompose", pictures::group(&words));
-    tell(b"restore", planes::group(&words));
+    tell_all(&words);
 }

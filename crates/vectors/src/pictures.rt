@@ -104,13 +104,18 @@ fn one_picture(words: &[u8], k: Case) -> Verdict {
 
 // Case c of this group: every side, levels from none to five, every kind of picture.
 fn case_at(c: usize) -> Case {
-    case_of(crate::cases::side_of(c % 7), c / 7 % 6, c / 42 % 8, c)
+    case_of(
+        crate::cases::side_of(c % 7),
+        c / 7 % 6,
+        c / 42 % 8,
+        crate::cases::mixed(c),
+    )
 }
 
 pub fn group(words: &[u8]) -> Tally {
     let mut t = crate::tally::none();
     let mut c: usize = 0;
-    while c < 336 {
+    while c < 6720 {
         let v = one_picture(words, case_at(c));
         t = crate::tally::counted(t, v);
         c += 1;

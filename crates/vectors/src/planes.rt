@@ -143,13 +143,18 @@ fn one_plane(words: &[u8], k: Case) -> Verdict {
 
 // Case c of this group: every side, levels from none to five, every kind of plane.
 pub fn case_at(c: usize) -> Case {
-    case_of(crate::cases::side_of(c % 7), c / 7 % 6, c / 42 % 14, c)
+    case_of(
+        crate::cases::side_of(c % 7),
+        c / 7 % 6,
+        c / 42 % 14,
+        crate::cases::mixed(c),
+    )
 }
 
 pub fn group(words: &[u8]) -> Tally {
     let mut t = crate::tally::none();
     let mut c: usize = 0;
-    while c < 588 {
+    while c < 5880 {
         let v = one_plane(words, case_at(c));
         t = crate::tally::counted(t, v);
         c += 1;

@@ -6,10 +6,10 @@ use Rattle.vectors.proofs.pictures.group.Statement.{statement}
 use Rattle.vectors.proofs.pictures.group.Tie as tie
 
 abbrev Inv-loop : tie.InvT-loop
-Inv-loop words t₀ c₀ t c = c ≤ 336
+Inv-loop words t₀ c₀ t c = c ≤ 6720
 
 abbrev μ-loop : tie.MeasureT-loop
-μ-loop words t₀ c₀ t c = 336 - c
+μ-loop words t₀ c₀ t c = 6720 - c
 
 none-requires : tie.Need-none-requires Inv-loop μ-loop
 none-requires c κs = search needs

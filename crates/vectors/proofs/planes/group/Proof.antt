@@ -6,10 +6,10 @@ use Rattle.vectors.proofs.planes.group.Statement.{statement}
 use Rattle.vectors.proofs.planes.group.Tie as tie
 
 abbrev Inv-loop : tie.InvT-loop
-Inv-loop words t₀ c₀ t c = c ≤ 588
+Inv-loop words t₀ c₀ t c = c ≤ 5880
 
 abbrev μ-loop : tie.MeasureT-loop
-μ-loop words t₀ c₀ t c = 588 - c
+μ-loop words t₀ c₀ t c = 5880 - c
 
 none-requires : tie.Need-none-requires Inv-loop μ-loop
 none-requires c κs = search needs
