@@ -1,0 +1,63 @@
+-- `vectors::marks::keep_group` is safe and ends. Assumes nothing.
+use Prim.Native.Nat.{_-_}
+use Prim.Native.Nat.{_≤_}
+use borrow.Author.Needs.{needs}
+use Rattle.vectors.proofs.marks.keep_group.Statement.{statement}
+use Rattle.vectors.proofs.marks.keep_group.Tie as tie
+
+abbrev Inv-loop : tie.InvT-loop
+Inv-loop t₀ c₀ t c = c ≤ 3528
+
+abbrev μ-loop : tie.MeasureT-loop
+μ-loop t₀ c₀ t c = 3528 - c
+
+none-requires : tie.Need-none-requires Inv-loop μ-loop
+none-requires c κs = search needs
+
+loop-holds : tie.Need-loop-holds Inv-loop μ-loop
+loop-holds c = search needs
+
+case-at-requires : tie.Need-case-at-requires Inv-loop μ-loop
+case-at-requires c κs = search needs
+
+smaller-requires : tie.Need-smaller-requires Inv-loop μ-loop
+smaller-requires c κs = search needs
+
+quota-requires : tie.Need-quota-requires Inv-loop μ-loop
+quota-requires c κs = search needs
+
+kept-alike-requires : tie.Need-kept-alike-requires Inv-loop μ-loop
+kept-alike-requires c κs = search needs
+
+counted-requires : tie.Need-counted-requires Inv-loop μ-loop
+counted-requires c κs = search needs
+
+add-c : tie.Need-add-c Inv-loop μ-loop
+add-c c = search needs
+
+loop-less : tie.Need-loop-less Inv-loop μ-loop
+loop-less c = search needs
+
+loop-again : tie.Need-loop-again Inv-loop μ-loop
+loop-again c = search needs
+
+returns : tie.Need-returns Inv-loop μ-loop
+returns c = search needs
+
+pub keep-group-spec : {M : Type 1} → statement M
+keep-group-spec =
+    tie.close
+    (tie.spec
+    Inv-loop
+    μ-loop
+    none-requires
+    loop-holds
+    case-at-requires
+    smaller-requires
+    quota-requires
+    kept-alike-requires
+    counted-requires
+    add-c
+    loop-less
+    loop-again
+    returns)

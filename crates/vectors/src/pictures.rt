@@ -1,0 +1,124 @@
+// Pictures, decomposed by the coder and by the plain second implementation.
+use crate::cases::Case;
+use crate::cases::case_of;
+use crate::cases::fill_picture;
+use crate::tally::Tally;
+use crate::tally::Verdict;
+use crate::tally::same_bytes;
+use crate::tally::same_values;
+
+// The coder on the front parts of the slices. 1000 where they are too short, which the second implementation never gives.
+pub fn decompose(
+    k: Case,
+    samples: &[u16],
+    plane: &mut [i64],
+    coverings: &mut [u8],
+    scratch: &mut [i64],
+) -> u32 {
+    let n = k.n;
+    let b = k.b;
+    if samples.len() < n {
+        return 1000;
+    }
+    if plane.len() < n {
+        return 1000;
+    }
+    if scratch.len() < n {
+        return 1000;
+    }
+    if coverings.len() < b {
+        return 1000;
+    }
+    refusals::code(coder::decompose(
+        k.side,
+        k.levels,
+        &samples[..n],
+        &mut plane[..n],
+        &mut coverings[..b],
+        &mut scratch[..n],
+    ))
+}
+
+// The second implementation on the front parts of the slices.
+fn decompose_plainly(
+    words: &[u8],
+    k: Case,
+    samples: &[u16],
+    plane: &mut [i64],
+    coverings: &mut [u8],
+    scratch: &mut [i64],
+) -> u32 {
+    let n = k.n;
+    let b = k.b;
+    if samples.len() < n {
+        return 2000;
+    }
+    if plane.len() < n {
+        return 2000;
+    }
+    if scratch.len() < n {
+        return 2000;
+    }
+    if coverings.len() < b {
+        return 2000;
+    }
+    plain::pyramid::decompose(
+        words,
+        k.side,
+        k.levels,
+        &samples[..n],
+        &mut plane[..n],
+        &mut coverings[..b],
+        &mut scratch[..n],
+    )
+}
+
+// Both, on slices that hold other values before.
+fn compare(words: &[u8], k: Case, samples: &[u16]) -> Verdict {
+    let mut plane = [7i64; 1024];
+    let mut coverings = [9u8; 512];
+    let mut scratch = [-3i64; 1024];
+    let mut plane2 = [7i64; 1024];
+    let mut coverings2 = [9u8; 512];
+    let mut scratch2 = [-3i64; 1024];
+    let a = decompose(k, samples, &mut plane, &mut coverings, &mut scratch);
+    let b = decompose_plainly(
+        words,
+        k,
+        samples,
+        &mut plane2,
+        &mut coverings2,
+        &mut scratch2,
+    );
+    let p = same_values(&plane, &plane2);
+    let c = same_bytes(&coverings, &coverings2);
+    let s = same_values(&scratch, &scratch2);
+    crate::tally::judged(a, b, p && c && s)
+}
+
+fn one_picture(words: &[u8], k: Case) -> Verdict {
+    let mut samples = [0u16; 1024];
+    fill_picture(k, &mut samples);
+    compare(words, k, &samples)
+}
+
+// Case c of this group: every side, levels from none to five, every kind of picture.
+fn case_at(c: usize) -> Case {
+    case_of(
+        crate::cases::side_of(c % 7),
+        c / 7 % 6,
+        c / 42 % 8,
+        crate::cases::mixed(c),
+    )
+}
+
+pub fn group(words: &[u8]) -> Tally {
+    let mut t = crate::tally::none();
+    let mut c: usize = 0;
+    while c < 6720 {
+        let v = one_picture(words, case_at(c));
+        t = crate::tally::counted(t, v);
+        c += 1;
+    }
+    t
+}
