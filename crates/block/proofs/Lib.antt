@@ -1,10 +1,5 @@
 pub mod All
-pub mod Best
 pub mod Blocks
-pub mod Costs
-pub mod Counts
-pub mod Entries
-pub mod Kernel
 pub mod Labels
 pub mod Named
 pub mod Pick

@@ -2,8 +2,8 @@
 // back, which is four times the values. The blocks: a flat one; rows 0 10 20 30; only the cell in row 0, column 0 is 1; only the cell in row 1, column 0
 // is 1; one for which coverings 55 and 56 cost least; and the same after covering 56 was chosen once.
 ghost use Prim.Native.Nat.{_^_};
-ghost use Rattle.block.specs.Kernel.{Within};
-use block::usage::Usage;
+ghost use Rattle.kernel.specs.Kernel.{Within};
+use kernel::usage::Usage;
 
 fn show(x: i64) {
     io::write_all(1, b" ");
@@ -26,17 +26,17 @@ fn show_all(x: [i64; 16]) {
 fn run(v: [i64; 16], usage: Usage)
     requires { ⌜ Within (2 ^ 38) v ⌝ }
 {
-    let placements = block::tables::placements();
-    let fours = block::tables::fours();
-    let cells = block::tables::cells();
-    let covering = block::choice::choose(&placements, &fours, v, usage);
+    let placements = tables::placements();
+    let fours = tables::fours();
+    let cells = tables::cells();
+    let covering = kernel::choice::choose(&placements, &fours, v, usage);
     io::write_all(1, b"covering ");
     io::print_decimal(1, covering as u64);
     io::write_all(1, b"\nresults");
-    let t = block::transform::forward(&cells, covering, v);
+    let t = kernel::transform::forward(&cells, covering, v);
     show_all(t);
     io::write_all(1, b"back");
-    show_all(block::transform::inverse(&cells, covering, t));
+    show_all(kernel::transform::inverse(&cells, covering, t));
 }
 
 fn main() {

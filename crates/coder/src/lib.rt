@@ -1,5 +1,5 @@
-// The coder: the entries decompose and restore. Each looks at its checks in document 01's order, and stores nothing before the last of them has passed.
-// What the entries answer, and what they leave in the slices, is in specs/Entries.antt.
+// The coder: the entries decompose and restore. Each looks at its checks in document 01's order, and stores nothing before the last of them has passed;
+// the work is in `analysis` and `synthesis`. What the entries answer, and what they leave in the slices, is in specs/Entries.antt.
 ghost use mathlib.Core.Path.{_≡_};
 ghost use Rattle.refusals.specs.Refusal.{answerOf};
 ghost use Rattle.integers.specs.Lists.{every};
@@ -7,10 +7,6 @@ ghost use Rattle.coder.specs.Claims.{CoderLaws};
 ghost use Rattle.coder.specs.Entries.{isSample, Decomposed, Restored};
 use refusals::Answer;
 use refusals::Refusal;
-
-pub mod analysis;
-pub mod grid;
-pub mod synthesis;
 
 // The largest side. Its contract carries the laws of the two entries together, which are so a part of what the check proves.
 pub fn largest_side() -> usize

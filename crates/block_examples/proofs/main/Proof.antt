@@ -5,8 +5,8 @@ use native.Mathlib.Omega.{arith}
 use borrow.Author.Needs.{needs}
 use lib.IntN.{ℤ, pos, negsuc}
 use lib.ListN.{replicate}
-use Rattle.block.specs.Usage.{countsOf}
-use Rattle.block.proofs.Kernel.{within-test}
+use Rattle.kernel.specs.Usage.{countsOf}
+use Rattle.kernel.proofs.Kernel.{within-test}
 use Rattle.block_examples.proofs.main.Statement.{statement}
 use Rattle.block_examples.proofs.main.Tie as tie
 

@@ -2,7 +2,7 @@
 use Prim.Native.Nat.{_^_}
 use native.Mathlib.Omega.{arith}
 use borrow.Author.Needs.{needs}
-use Rattle.block.proofs.Kernel.{forward-within}
+use Rattle.kernel.proofs.Kernel.{forward-within}
 use Rattle.block_examples.proofs.run.Statement.{statement}
 use Rattle.block_examples.proofs.run.Tie as tie
 

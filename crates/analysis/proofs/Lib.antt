@@ -1,0 +1,3 @@
+pub mod Bandwise
+pub mod Descend
+pub mod Levelwise

@@ -1,0 +1,4 @@
+pub mod Best
+pub mod Costs
+pub mod Counts
+pub mod Kernel

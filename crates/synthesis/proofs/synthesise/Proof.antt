@@ -1,0 +1,174 @@
+-- `synthesis::synthesise` meets its contract. Assumes nothing.
+use mathlib.Core.Path.{_≡_, refl, ap, _∙_, subst, subst⁻¹}
+use mathlib.Core.List.{List}
+use Prim.Native.Nat.{ℕ, suc, _*_, _-_, _/_, _^_, _≤_}
+use native.Mathlib.Nat.{pow-suc}
+use native.Mathlib.Omega.{arith}
+use lib.IntN.{ℤ, pos}
+use lib.ListN.{length, replicate}
+use Rattle.slices.specs.Stores.{rectangles}
+use Rattle.slices.proofs.Stores.{length-rectangles}
+use Rattle.pyramid.specs.Plane.{allBlocks, after, listed}
+use Rattle.pyramid.specs.Slices.{imageOf}
+use Rattle.synthesis.specs.Synthesis.{Level, mergedBlock, putColumns}
+use Rattle.synthesis.proofs.Merging.{columns-length}
+use Rattle.synthesis.proofs.Deeper.{Reached, Turn, reach-none, reach-all, turn-of, turn-takes, turn-level, turn-reached}
+use borrow.Author.Needs.{needs}
+use Rattle.synthesis.proofs.synthesise.Statement.{statement}
+use Rattle.synthesis.proofs.synthesise.Tie as tie
+
+abbrev Inv-loop : tie.InvT-loop
+Inv-loop cells height width levels plane coverings numerators₀ scratch₀ left₀ first₀ weight₀ numerators scratch left first weight =
+    (left ≤ levels) × (first ≡ allBlocks left height width) × (weight ≡ 4 ^ (levels - left)) × (length numerators ≡ width * height) × (length scratch ≡ width * height) × Reached height width left (levels - left) coverings (imageOf height plane) (imageOf height numerators)
+
+abbrev μ-loop : tie.MeasureT-loop
+μ-loop cells height width levels plane coverings numerators₀ scratch₀ left₀ first₀ weight₀ numerators scratch left first weight = left
+
+turn : (c : tie.In-loop Inv-loop μ-loop) → let l = c .before .loop in let a = c .before .before .before .before .before .before .args in
+    Turn (a .levels) (a .height) (a .width) (l .left) (a .height / 2 ^ (l .left - 1)) (a .width / 2 ^ (l .left - 1)) (l .first - a .width / 2 ^ (l .left - 1) / 4 * (a .height / 2 ^ (l .left - 1) / 4)) (l .weight) (l .left - 1)
+turn c =
+    let l = c .before .loop in
+    let a = c .before .before .before .before .before .before .args in
+    turn-of (a .levels) (a .height) (a .width) (l .left) (l .first) (l .weight) (omega arith) (l .inv .0) (l .inv .1) (l .inv .2)
+
+takes : (c : tie.In-loop Inv-loop μ-loop) → let l = c .before .loop in let a = c .before .before .before .before .before .before .args in a .width / 2 ^ (l .left - 1) / 4 * (a .height / 2 ^ (l .left - 1) / 4) ≤ l .first
+takes c =
+    let l = c .before .loop in
+    let a = c .before .before .before .before .before .before .args in
+    turn-takes (a .levels) (a .height) (a .width) (l .left) (l .first) (l .weight) (omega arith) (l .inv .0) (l .inv .1) (l .inv .2)
+
+level : (c : tie.In-loop Inv-loop μ-loop) → let l = c .before .loop in let a = c .before .before .before .before .before .before .args in
+    Level (a .height) (a .height / 2 ^ (l .left - 1)) (a .width / 2 ^ (l .left - 1)) (l .weight) (l .first - a .width / 2 ^ (l .left - 1) / 4 * (a .height / 2 ^ (l .left - 1) / 4)) (a .coverings .now) (l .numerators)
+level c =
+    let l = c .before .loop in
+    turn-level (c .before .before .before .before .before .before .pre .1 .0) (turn c) (l .numerators) (l .inv .3) (l .inv .5)
+
+-- the values of the level's blocks
+abbrev values : (c : tie.In-loop Inv-loop μ-loop) → ℕ → ℕ → List ℤ
+values c =
+    let l = c .before .loop in
+    let a = c .before .before .before .before .before .before .args in
+    mergedBlock (a .height) (a .height / 2 ^ (l .left - 1)) (a .width / 2 ^ (l .left - 1)) (l .weight) (after (l .first - a .width / 2 ^ (l .left - 1) / 4 * (a .height / 2 ^ (l .left - 1) / 4)) (listed (a .coverings .now))) (l .numerators)
+
+scratch-length : (c : tie.After-merge-level Inv-loop μ-loop) → let a = c .before .before .before .before .before .before .before .before .before .args in length (c .merge-level .last .1 .1 .1 .1 .1 .1 .1 .1 .0) ≡ a .width * a .height
+scratch-length c =
+    let i = c .before .before .before in
+    let l = i .before .loop in
+    let a = i .before .before .before .before .before .before .args in
+    ap length (c .merge-level .ensures) ∙ columns-length (a .height) (values i) (a .height / 2 ^ (l .left - 1) / 4) (a .width / 2 ^ (l .left - 1) / 4) (l .scratch) (omega (arith, level i .inside)) ∙ l .inv .4
+
+copy-requires : tie.Need-copy-requires Inv-loop μ-loop
+copy-requires c κs = let s = c .before .before in omega (arith, s .pre .1 .0 .plane-long, s .pre .1 .1 .0)
+
+loop-holds : tie.Need-loop-holds Inv-loop μ-loop
+loop-holds c =
+    let s = c .before .before .before .before in
+    let a = s .args in
+    let e = c .before .copy .ensures in
+    let none : a .levels - a .levels ≡ 0 = omega arith in (
+      omega arith,
+      s .pre .1 .0 .covered,
+      rw none refl,
+      ap length e ∙ s .pre .1 .0 .plane-long,
+      s .pre .1 .1 .1,
+      rw (none, e) (reach-none (s .pre .1 .0)),
+    )
+
+sub-left : tie.Need-sub-left Inv-loop μ-loop
+sub-left c = omega arith
+
+shr-tall : tie.Need-shr-tall Inv-loop μ-loop
+shr-tall c = omega (arith, c .before .before .before .before .before .before .pre .1 .0 .most)
+
+shr-wide : tie.Need-shr-wide Inv-loop μ-loop
+shr-wide c = omega (arith, c .before .before .before .before .before .before .pre .1 .0 .most)
+
+mul-first : tie.Need-mul-first Inv-loop μ-loop
+mul-first c = omega (arith, level c .covered, c .before .before .before .before .before .before .good)
+
+sub-first : tie.Need-sub-first Inv-loop μ-loop
+sub-first c = takes c
+
+merge-level-requires : tie.Need-merge-level-requires Inv-loop μ-loop
+merge-level-requires c κs =
+    let i = c .before .before in
+    let s = i .before .before .before .before .before .before in
+    (s .pre .0, (level i, omega (arith, level i .long, i .before .loop .inv .3, i .before .loop .inv .4)))
+
+copy-rectangle-requires : tie.Need-copy-rectangle-requires Inv-loop μ-loop
+copy-rectangle-requires c κs =
+    let i = c .before .before .before .before .before .before in
+    (level i .inside, omega (arith, level i .long, i .before .loop .inv .3, scratch-length (c .before .before .before)), level i .long)
+
+mul-weight : tie.Need-mul-weight Inv-loop μ-loop
+mul-weight c = omega (arith, level (c .before .before .before .before .before .before .before .before) .weight)
+
+loop-less : tie.Need-loop-less Inv-loop μ-loop
+loop-less c = omega arith
+
+loop-again : tie.Need-loop-again Inv-loop μ-loop
+loop-again c =
+    let m = c .before .before .before .before .before in
+    let i = m .before .before .before in
+    let l = i .before .loop in
+    let s = i .before .before .before .before .before .before in
+    let a = s .args in
+    let d = l .left - 1 in
+    let tall = a .height / 2 ^ d in
+    let wide = a .width / 2 ^ d in
+    let merged : c .before .copy-rectangle .last .1 .0 ≡ rectangles (a .height) tall wide (putColumns (a .height) (values i) (tall / 4) (wide / 4) (l .scratch)) (l .numerators) =
+    c .before .copy-rectangle .ensures ∙ ap (λ (x : List ℤ). rectangles (a .height) tall wide x (l .numerators)) (m .merge-level .ensures) in
+    let e : a .levels - d ≡ suc (a .levels - l .left) = omega arith in (
+      omega arith,
+      turn i .first-is,
+      omega (arith, l .inv .2, ap (λ (n : ℕ). 4 ^ n) e, pow-suc 4 (a .levels - l .left)),
+      ap length merged ∙ length-rectangles (putColumns (a .height) (values i) (tall / 4) (wide / 4) (l .scratch)) (a .height) tall (level i .inside) (l .numerators) wide ∙ l .inv .3,
+      scratch-length m,
+      subst⁻¹ (λ (x : List ℤ). Reached (a .height) (a .width) d (a .levels - d) (a .coverings .now) (imageOf (a .height) (a .plane .now)) (imageOf (a .height) x)) merged
+          (turn-reached (s .pre .1 .0) (turn i) (l .numerators) (l .inv .3) (l .inv .5) (l .scratch) (l .inv .4)),
+    )
+
+clear-requires : tie.Need-clear-requires Inv-loop μ-loop
+clear-requires c κs = tt
+
+same-length : tie.Need-same-length Inv-loop μ-loop
+same-length c = search needs
+
+same-length-2 : tie.Need-same-length-2 Inv-loop μ-loop
+same-length-2 c = search needs
+
+returns : tie.Need-returns Inv-loop μ-loop
+returns c =
+    let l = c .before .before .before .before in
+    let s = l .before .before .before .before .before in
+    let a = s .args in
+    let e : l .loop .left ≡ 0 = omega arith in
+    let q : a .levels - l .loop .left ≡ a .levels = omega arith in (
+      reach-all (s .pre .1 .0) (l .loop .numerators) (l .loop .inv .3)
+          (subst (λ (k : ℕ). Reached (a .height) (a .width) 0 k (a .coverings .now) (imageOf (a .height) (a .plane .now)) (imageOf (a .height) (l .loop .numerators))) q
+          (subst (λ (k : ℕ). Reached (a .height) (a .width) k (a .levels - l .loop .left) (a .coverings .now) (imageOf (a .height) (a .plane .now)) (imageOf (a .height) (l .loop .numerators))) e (l .loop .inv .5))),
+      c .before .clear .ensures ∙ ap (λ (n : ℕ). replicate n (pos 0)) (l .loop .inv .4),
+    )
+
+pub synthesise-spec : {M : Type 1} → statement M
+synthesise-spec =
+    tie.close
+    (tie.spec
+    Inv-loop
+    μ-loop
+    copy-requires
+    loop-holds
+    sub-left
+    shr-tall
+    shr-wide
+    mul-first
+    sub-first
+    merge-level-requires
+    copy-rectangle-requires
+    mul-weight
+    loop-less
+    loop-again
+    clear-requires
+    same-length
+    same-length-2
+    returns)
