@@ -38,6 +38,8 @@ pub record Coded (counts : List ℕ) (A : Image) (h tall wide i j c : ℕ) (old 
   pub stored : new ≡ scatter (bandPlace h (startsOf h tall wide i j)) (resultOf c A i j) 16 old
 
 -- One level: its coverings stand from the place `first` on, and its bands in the square.
+-- Each choice counts the earlier ones of this level alone (`chosenTo`):
+-- the counts start afresh.
 pub record Levelled (h tall wide first : ℕ) (A : Image) (oldCoverings newCoverings : List ℕ) (out : List ℤ) : Type 0 where
   pub covered : take (first + blocks tall wide) newCoverings ≡ take first oldCoverings ++ chosenTo tall A (blocks tall wide)
   pub bands : (y x : ℕ) → y < tall → x < wide → imageOf h out y x ≡ layout tall wide (bandsOf tall (listed (chosenTo tall A (blocks tall wide))) A) y x
