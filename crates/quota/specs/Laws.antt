@@ -1,4 +1,4 @@
--- The laws of Keep, with the third demand and the starred examples, as one record: what is proved of the definitions once and for all. Assumes nothing.
+-- The laws of Keep, with the third demand, as one record: what is proved of the definitions once and for all. Assumes nothing.
 use mathlib.Core.Path.{_≡_}
 use mathlib.Core.List.{List}
 use mathlib.Core.Bool.{Bool, not, cond}
@@ -13,7 +13,6 @@ use Rattle.pyramid.specs.Slices.{imageOf, coversOf, planeOf}
 use Rattle.pyramid.specs.Ranges.{inRange}
 use Rattle.quota.specs.Quota.{stays, select, kept, entries, keptOf}
 use Rattle.quota.specs.Claims.{Demand}
-use Rattle.quota.specs.Reckoned.{table, Agrees}
 
 -- Keep on a list q of ranks.
 pub record KeepLaws (K : ℕ) (q : List ℕ) : Type 0 where
@@ -39,5 +38,3 @@ pub record Laws : Type 0 where
   pub restoreAccepts : (R h w : ℕ) → Fits (suc R) h w → (s : List ℕ) → ((k : ℕ) → k < w * h → getD s k 0 ≤ 4095) → (K : ℕ) → T (inRange (suc R) h w (imageOf h (keptOf (suc R) h w K (planeOf (suc R) h w s))))
   -- the third demand
   pub demand : (R h w K : ℕ) → Fits R h w → (s : List ℕ) → Demand R h w K s (coversOf R h w s) (planeOf R h w s) (keptOf R h w K (planeOf R h w s))
-  -- the starred examples
-  pub examples : Agrees table
