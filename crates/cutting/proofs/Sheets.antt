@@ -26,11 +26,11 @@ use Rattle.pyramid.proofs.Accepted.{plane-accepted}
 use Rattle.pyramid.proofs.Choose.{covers-length, covers-numbers}
 use Rattle.pyramid.proofs.Slices.{slice-length}
 use Rattle.places.proofs.Sides.{passed}
-use Rattle.quota.specs.Quota.{keptOf}
+use Rattle.quota.specs.Quota.{keptOf, quotaLimit}
 use Rattle.quota.proofs.Accepted.{kept-accepted}
 use Rattle.coder.specs.Entries.{isSample, decomposeRefusal, Decomposed}
 use Rattle.coder.proofs.Gates.{small-samples}
-use Rattle.keeping.specs.Entries.{quotaLimit, keepRefusal, Kept}
+use Rattle.keeping.specs.Entries.{keepRefusal, Kept}
 use Rattle.sheet.specs.Sheet.{sheetText, writeRefusal, WriteAnswered}
 use Rattle.cutting.specs.Forms.{refusalText}
 use Rattle.cutting.specs.Cutter.{pictureText, Printed}

@@ -10,9 +10,8 @@ use lib.ListN.{length, getD, drop}
 use Rattle.integers.specs.Lists.{tabulate, every}
 use Rattle.pyramid.specs.Sides.{isSide, isDepth}
 use Rattle.pyramid.specs.Slices.{planeOf, coversOf}
-use Rattle.quota.specs.Quota.{keptOf}
+use Rattle.quota.specs.Quota.{keptOf, quotaLimit}
 use Rattle.coder.specs.Entries.{isSample}
-use Rattle.keeping.specs.Entries.{quotaLimit}
 use Rattle.text.specs.Text.{Parsed, bad, got, sections, parse}
 use Rattle.text.specs.Lines.{cellAt}
 use Rattle.sheet.specs.Sheet.{sheetText}

@@ -15,10 +15,10 @@ use Rattle.integers.proofs.Tests.{true-at, false-at}
 use Rattle.pyramid.specs.Sides.{isSide, isDepth}
 use Rattle.pyramid.specs.Ranges.{inRange}
 use Rattle.pyramid.specs.Slices.{imageOf}
-use Rattle.quota.specs.Quota.{ranks, entriesOf}
+use Rattle.quota.specs.Quota.{ranks, entriesOf, quotaLimit}
 use Rattle.places.proofs.Sides.{passed}
-use Rattle.keeping.specs.Sifting.{Ready, Limit, Sifted}
-use Rattle.keeping.specs.Entries.{quotaLimit, keepRefusal, Kept, cutRefusal, Cut}
+use Rattle.sifting.specs.Sifting.{Ready, Limit, Sifted}
+use Rattle.keeping.specs.Entries.{keepRefusal, Kept, cutRefusal, Cut}
 use Rattle.keeping.proofs.Chosen.{kept-is, cut-is}
 
 module _ (side levels : ℕ) (plane : List ℤ) where

@@ -19,9 +19,9 @@ use Rattle.pyramid.proofs.Places.{none, places-levels}
 use Rattle.pyramid.proofs.Number.{places-count}
 use Rattle.quota.specs.Quota.{ranks, stays, passes, keptOf, cutOf}
 use Rattle.quota.proofs.Demand.{q-at, q-length}
-use Rattle.keeping.specs.Sifting.{ties, Limit, sifts, siftedOf}
-use Rattle.keeping.proofs.Limits.{keep-by, ties-few}
-use Rattle.keeping.proofs.Passing.{same-selected}
+use Rattle.sifting.specs.Sifting.{ties, Limit, sifts, siftedOf}
+use Rattle.sifting.proofs.Limits.{keep-by, ties-few}
+use Rattle.sifting.proofs.Passing.{same-selected}
 
 pub kept-is : (R n : ℕ) → Fits R n n → (p : List ℤ) (K t over : ℕ) → Limit (ranks R n n (imageOf n p)) K t over → siftedOf R n t (K - over) p ≡ keptOf R n n K p
 kept-is R n f p K t over h =

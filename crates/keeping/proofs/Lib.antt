@@ -1,8 +1,2 @@
 pub mod Checks
 pub mod Chosen
-pub mod Limits
-pub mod Passing
-pub mod Runs
-pub mod Sizes
-pub mod Tallying
-pub mod Turns

@@ -2,18 +2,14 @@
 use mathlib.Core.Path.{_≡_}
 use mathlib.Core.Bool.{not}
 use mathlib.Core.List.{List}
-use Prim.Native.Nat.{ℕ, _*_, _-_, _/_, _^_}
+use Prim.Native.Nat.{ℕ}
 use lib.Dec.{ltb}
 use lib.IntN.{ℤ}
 use Rattle.refusals.specs.Refusal.{refuseIf, afterCall}
 use Rattle.pyramid.specs.Sides.{isSide, isDepth, isPlane}
 use Rattle.pyramid.specs.Ranges.{inRange}
 use Rattle.pyramid.specs.Slices.{imageOf}
-use Rattle.quota.specs.Quota.{keptOf, cutOf, entriesOf}
-
--- Document 01, refusal 7: "K over N^2 - N^2/4^R".
-abbrev pub quotaLimit : ℕ → ℕ → ℕ
-quotaLimit side levels = side * side - side * side / 4 ^ levels
+use Rattle.quota.specs.Quota.{quotaLimit, keptOf, cutOf, entriesOf}
 
 -- Document 01: "keep 1 2 3 6 7".
 abbrev pub keepRefusal : ℕ → ℕ → List ℤ → ℕ → ℕ

@@ -1,16 +1,11 @@
 // Keeping: the entries keep and threshold, which leave the largest tetrolet entries of a plane and store 0 at the others. Each looks at its checks in
-// document 01's order, and stores nothing before the last of them has passed. Both go through the plane once, in plane order, with a tally that
-// goes by value from entry to entry; keep first finds the rank at which entries begin to go. What they answer, and what they leave in the
+// document 01's order, and stores nothing before the last of them has passed; the pass is that of `sifting`. What they answer, and what they leave in the
 // plane, is in specs/Entries.antt.
 ghost use mathlib.Core.Path.{_≡_};
 ghost use Rattle.refusals.specs.Refusal.{countedOf, countOf};
 ghost use Rattle.keeping.specs.Entries.{Kept, Cut};
 use refusals::Counted;
 use refusals::Refusal;
-
-pub mod ranks;
-pub mod sift;
-pub mod tally;
 
 // Keeps the first `quota` tetrolet entries not zero by falling rank, then plane order; the others become 0. Document 01: "keep 1 2 3 6 7".
 // Two wrong answers that the contract rules out: a plane with one entry more; of two entries of one rank, the later one kept and the earlier one gone.
@@ -32,11 +27,11 @@ pub fn keep(side: usize, levels: usize, plane: &mut [i64], quota: u64) -> Counte
     if !places::checks::in_range(plane, n, r) {
         return Counted::Refused(Refusal::Coefficient);
     }
-    if ranks::most_entries(n, r) < quota {
+    if sifting::ranks::most_entries(n, r) < quota {
         return Counted::Refused(Refusal::Quota);
     }
-    let found = ranks::limit_of(n, r, plane, quota);
-    Counted::Count(sift::sift(n, r, plane, found.base, quota - found.over))
+    let found = sifting::ranks::limit_of(n, r, plane, quota);
+    Counted::Count(sifting::sift::sift(n, r, plane, found.base, quota - found.over))
 }
 
 // Cuts by a threshold: an entry of level r stays if its absolute value is at least `limit` times 2^r. Document 01: "cut 1 2 3 6 8".
@@ -62,6 +57,6 @@ pub fn threshold(side: usize, levels: usize, plane: &mut [i64], limit: u64) -> C
     if 1000000 < limit {
         return Counted::Refused(Refusal::Threshold);
     }
-    let least = limit * ranks::doubled(r);
-    Counted::Count(sift::sift(n, r, plane, least, area as u64))
+    let least = limit * sifting::ranks::doubled(r);
+    Counted::Count(sifting::sift::sift(n, r, plane, least, area as u64))
 }

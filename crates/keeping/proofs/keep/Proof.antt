@@ -9,8 +9,8 @@ use borrow.Author.Tests.{not-true, not-false}
 use Rattle.pyramid.specs.Sides.{isSide, isDepth}
 use Rattle.pyramid.proofs.Sides.{side-is, side-small}
 use Rattle.places.proofs.Sides.{passed}
-use Rattle.keeping.specs.Sifting.{Ready}
-use Rattle.keeping.proofs.Sizes.{area-small}
+use Rattle.sifting.specs.Sifting.{Ready}
+use Rattle.sifting.proofs.Sizes.{area-small}
 use Rattle.keeping.proofs.Checks.{ready, no-side, no-depth, no-plane, no-range, no-quota, keeps}
 use Rattle.keeping.proofs.keep.Statement.{statement}
 use Rattle.keeping.proofs.keep.Tie as tie

@@ -10,8 +10,8 @@ use borrow.Author.Tests.{not-true, not-false}
 use Rattle.pyramid.specs.Sides.{isSide, isDepth}
 use Rattle.pyramid.proofs.Sides.{side-is, side-small}
 use Rattle.places.proofs.Sides.{passed}
-use Rattle.keeping.specs.Sifting.{Ready}
-use Rattle.keeping.proofs.Sizes.{area-small}
+use Rattle.sifting.specs.Sifting.{Ready}
+use Rattle.sifting.proofs.Sizes.{area-small}
 use Rattle.keeping.proofs.Checks.{ready, bad-side, bad-depth, bad-plane, bad-range, bad-threshold, cuts}
 use Rattle.keeping.proofs.threshold.Statement.{statement}
 use Rattle.keeping.proofs.threshold.Tie as tie
