@@ -14,7 +14,7 @@ use Rattle.refusals.specs.declared.Answer.{Answer}
 use Rattle.refusals.specs.declared.Counted.{Counted}
 use Rattle.refusals.specs.declared.Answer.the-variants.{Done, Refused}
 use Rattle.refusals.specs.declared.Counted.the-variants.{Count, Refused as Rejected}
-use Rattle.refusals.proofs.After.{unchanged}
+use Rattle.refusals.proofs.After.{unchanged, never-zero}
 use Rattle.integers.specs.Lists.{every}
 use Rattle.integers.proofs.Tests.{every-at, every-of, is-true, both-true}
 use Rattle.coverings.specs.Entry.{isNumber}
@@ -103,10 +103,6 @@ module _ (side levels quota : ℕ) (samples : List ℕ) (plane : List ℤ) (cove
 
   -- ---- refused by the first call
 
-  -- a refusal's number is not 0
-  never : (x : Refusal) → numberOf x ≡ 0 → ⊥
-  never x e = let z = unchanged {A = ℕ} x 1 0 ∙ ap (λ (n : ℕ). afterCall {A = ℕ} n 1 0) e in omega arith
-
   stopped : {A : Type 0} (x : Refusal) {n : ℕ} → numberOf x ≡ n → (new old : A) → afterCall n new old ≡ old
   stopped x e new old = ap (λ (n : ℕ). afterCall n new old) (sym e) ∙ sym (unchanged x new old)
 
@@ -124,7 +120,7 @@ module _ (side levels quota : ℕ) (samples : List ℕ) (plane : List ℤ) (cove
     image = unchanged x _ restored;
     counts = unchanged x _ 0;
     accepted = λ a b m n. h .number ∙ a;
-    demand = λ z. absurd (never x z);
+    demand = λ z. absurd (never-zero x z);
   }
 
   -- ---- accepted by the first call
@@ -150,7 +146,7 @@ module _ (side levels quota : ℕ) (samples : List ℕ) (plane : List ℤ) (cove
           image = unchanged x _ restored;
           counts = unchanged x _ 0;
           accepted = λ a b m n. e ∙ b;
-          demand = λ z. absurd (never x z);
+          demand = λ z. absurd (never-zero x z);
         })
 
     -- ---- accepted by the second call
@@ -184,7 +180,7 @@ module _ (side levels quota : ℕ) (samples : List ℕ) (plane : List ℤ) (cove
         image = t .image;
         counts = unchanged x _ 0;
         accepted = λ a b m n. t .number ∙ restore-number ∙ restores a m n;
-        demand = λ z. absurd (never x z);
+        demand = λ z. absurd (never-zero x z);
       }
 
       pub all-accepted : {a : Answer} {numerators′ : List ℤ} {restored′ : List ℕ} {scratch₂ : List ℤ} → a ≡ Done → Restored side levels plane₂ coverings₁ numerators numerators′ restored restored′ scratch₁ scratch₂ (answerOf a)

@@ -12,7 +12,7 @@ use Rattle.integers.specs.Lists.{every}
 use Rattle.integers.proofs.Tests.{is-true, both, every-of}
 use Rattle.refusals.specs.Refusal.{numberOf, answerOf, countedOf, countOf, refuseIf, afterCall}
 use Rattle.refusals.specs.declared.Refusal.{Refusal}
-use Rattle.refusals.specs.declared.Refusal.the-variants.{Side, Depth, Frame, Sample, Covering, Coefficient, Quota, Threshold, Text, Buffer, Sequence, Bench}
+use Rattle.refusals.proofs.After.{never-zero}
 use Rattle.refusals.specs.declared.Answer.{Answer}
 use Rattle.refusals.specs.declared.Answer.the-variants.{Done, Refused}
 use Rattle.refusals.specs.declared.Counted.{Counted}
@@ -38,24 +38,10 @@ use Rattle.cutting.specs.Rows.{heldTo}
 use Rattle.cutting.proofs.Bounds.{sheet-bound}
 use Rattle.cutting.proofs.Turned.{same-samples, held-same}
 
-not-zero : (r : Refusal) → numberOf r ≡ 0 → ⊥
-not-zero Side e = omega arith
-not-zero Depth e = omega arith
-not-zero Frame e = omega arith
-not-zero Sample e = omega arith
-not-zero Covering e = omega arith
-not-zero Coefficient e = omega arith
-not-zero Quota e = omega arith
-not-zero Threshold e = omega arith
-not-zero Text e = omega arith
-not-zero Buffer e = omega arith
-not-zero Sequence e = omega arith
-not-zero Bench e = omega arith
-
 -- the last check of a call, by its answer
 refused-by : (r : Refusal) (t : Bool) (m : ℕ) → numberOf r ≡ refuseIf t m 0 → t ≡ true
 refused-by r true m e = refl
-refused-by r false m e = absurd (not-zero r e)
+refused-by r false m e = absurd (never-zero r e)
 
 passed-by : (t : Bool) (m : ℕ) → 0 ≡ refuseIf t (suc m) 0 → t ≡ false
 passed-by true m e = absurd (omega arith)
@@ -185,7 +171,7 @@ module _ (n R K : ℕ) (s : List ℕ) (a : isSide n ≡ true) (b : isDepth R n n
               (subst (λ (y : List ℕ). WriteAnswered n R p″ y old new (countedOf x) (countOf x)) (done .covers) (subst (λ (y : Counted). WriteAnswered n R p″ c′ old new (countedOf y) (countOf y)) i z))
 
           pub end-10 : (r : Refusal) → w ≡ Rejected r → ⊥
-          end-10 r i = not-zero r (wrote (Rejected r) i .number ∙ accepted)
+          end-10 r i = never-zero r (wrote (Rejected r) i .number ∙ accepted)
 
           pub end-sheet : (m : ℕ) → w ≡ Count m → Printed (pictureText n R K s) old new m
           end-sheet m i =
