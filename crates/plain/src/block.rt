@@ -1,13 +1,13 @@
 // One block: the values of a piece, the cost of a covering, the labels of its pieces.
-use crate::safe::add;
-use crate::safe::opposite;
-use crate::safe::plus;
-use crate::safe::rest;
-use crate::safe::size;
-use crate::safe::times;
-use crate::safe::total;
-use crate::safe::value_at;
 use crate::tiles::piece_at;
+use plain_frame::safe::add;
+use plain_frame::safe::opposite;
+use plain_frame::safe::plus;
+use plain_frame::safe::rest;
+use plain_frame::safe::size;
+use plain_frame::safe::times;
+use plain_frame::safe::total;
+use plain_frame::safe::value_at;
 
 // The square that a block is cut from: `side` is that of the whole plane, stored down columns, and the block's upper left cell is at
 // (top, left).
@@ -84,7 +84,7 @@ pub fn signs(q: Four) -> Four {
     }
 }
 
-pub fn piece_values(words: &[u8], covering: u8, piece: u8, square: &[i64], at: Corner) -> Four {
+fn piece_values(words: &[u8], covering: u8, piece: u8, square: &[i64], at: Corner) -> Four {
     let mut q = Four {
         met: 0,
         a: 0,
@@ -102,8 +102,13 @@ pub fn piece_values(words: &[u8], covering: u8, piece: u8, square: &[i64], at: C
     q
 }
 
+// The low-pass and the three tetrolet coefficients of a piece.
+pub fn piece_result(words: &[u8], covering: u8, piece: u8, square: &[i64], at: Corner) -> Four {
+    signs(piece_values(words, covering, piece, square, at))
+}
+
 fn piece_cost(words: &[u8], covering: u8, piece: u8, square: &[i64], at: Corner) -> u64 {
-    let w = signs(piece_values(words, covering, piece, square, at));
+    let w = piece_result(words, covering, piece, square, at);
     total(size(w.b), total(size(w.c), size(w.d)))
 }
 

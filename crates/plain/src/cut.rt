@@ -1,20 +1,20 @@
 // Keep and cut.
-use crate::frame::all_in_range;
-use crate::frame::area;
-use crate::frame::band_side;
-use crate::frame::index_of;
-use crate::frame::place;
-use crate::frame::power;
-use crate::frame::side_and_depth;
-use crate::outcome::Outcome;
-use crate::outcome::accepted;
-use crate::outcome::refused;
-use crate::safe::minus;
-use crate::safe::plus;
-use crate::safe::put_value;
-use crate::safe::size;
-use crate::safe::times;
-use crate::safe::value_at;
+use plain_frame::frame::all_in_range;
+use plain_frame::frame::area;
+use plain_frame::frame::band_side;
+use plain_frame::frame::index_of;
+use plain_frame::frame::place;
+use plain_frame::frame::power;
+use plain_frame::frame::side_and_depth;
+use plain_frame::outcome::Outcome;
+use plain_frame::outcome::accepted;
+use plain_frame::outcome::refused;
+use plain_frame::safe::minus;
+use plain_frame::safe::plus;
+use plain_frame::safe::put_value;
+use plain_frame::safe::size;
+use plain_frame::safe::times;
+use plain_frame::safe::value_at;
 
 fn checked(side: usize, levels: usize, plane: &[i64]) -> u32 {
     let bad = side_and_depth(side, levels);

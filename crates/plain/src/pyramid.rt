@@ -5,36 +5,37 @@ use crate::block::best_labels;
 use crate::block::cell_index;
 use crate::block::cost;
 use crate::block::label;
-use crate::block::piece_values;
+use crate::block::piece_result;
 use crate::block::signs;
-use crate::frame::all_blocks;
-use crate::frame::all_coverings;
-use crate::frame::all_in_range;
-use crate::frame::area;
-use crate::frame::band_side;
-use crate::frame::block_in_level;
-use crate::frame::blocks_before;
-use crate::frame::level_blocks;
-use crate::frame::power;
-use crate::frame::side_and_depth;
-use crate::safe::add;
-use crate::safe::byte_at;
-use crate::safe::clear;
-use crate::safe::minus;
-use crate::safe::over;
-use crate::safe::plus;
-use crate::safe::put_byte;
-use crate::safe::put_sample;
-use crate::safe::put_value;
-use crate::safe::rest;
-use crate::safe::sample_at;
-use crate::safe::size;
-use crate::safe::times;
-use crate::safe::value_at;
 use crate::tiles::piece_at;
+use plain_frame::frame::Spot;
+use plain_frame::frame::area;
+use plain_frame::frame::band_side;
+use plain_frame::frame::block_in_level;
+use plain_frame::frame::blocks_before;
+use plain_frame::frame::contents;
+use plain_frame::frame::lengths;
+use plain_frame::frame::level_blocks;
+use plain_frame::frame::power;
+use plain_frame::frame::times_chosen;
+use plain_frame::safe::add;
+use plain_frame::safe::byte_at;
+use plain_frame::safe::clear;
+use plain_frame::safe::minus;
+use plain_frame::safe::over;
+use plain_frame::safe::plus;
+use plain_frame::safe::put_byte;
+use plain_frame::safe::put_sample;
+use plain_frame::safe::put_value;
+use plain_frame::safe::rest;
+use plain_frame::safe::sample_at;
+use plain_frame::safe::size;
+use plain_frame::safe::times;
+use plain_frame::safe::value_at;
 
-// Copies the upper left square of side n between two planes.
-fn copy_square(from: &[i64], to: &mut [i64], side: usize, n: usize) {
+// Copies the upper left square that a level is about, the whole plane for level 1.
+fn copy_square(from: &[i64], to: &mut [i64], side: usize, level: usize) {
+    let n = band_side(side, minus(level, 1));
     let end = area(n);
     let mut i: usize = 0;
     while i < end {
@@ -61,19 +62,6 @@ fn load(samples: &[u16], plane: &mut [i64]) {
         put_value(plane, i, sample_at(samples, i));
         i += 1;
     }
-}
-
-// How often the places from `start` to before `end` hold the covering.
-pub fn times_chosen(coverings: &[u8], start: usize, end: usize, covering: u8) -> usize {
-    let mut n: usize = 0;
-    let mut i = start;
-    while i < end {
-        if byte_at(coverings, i) == covering {
-            n = plus(n, 1);
-        }
-        i += 1;
-    }
-    n
 }
 
 // The least cost; then the most often chosen in the blocks of this level before; then the lowest number.
@@ -149,9 +137,8 @@ fn get_four(plane: &[i64], side: usize, half: usize, row: usize, col: usize) -> 
     }
 }
 
-// The level's n-th block: its corner in the plane.
-fn corner(side: usize, level: usize, n: usize) -> Corner {
-    let p = block_in_level(side, level, n);
+// The corner in the plane of the block at this place.
+fn corner(side: usize, p: Spot) -> Corner {
     Corner {
         side: side,
         top: times(4, p.row),
@@ -159,28 +146,43 @@ fn corner(side: usize, level: usize, n: usize) -> Corner {
     }
 }
 
-fn split_piece(
-    words: &[u8],
-    covering: u8,
-    labels: u32,
-    piece: u8,
-    square: &[i64],
-    plane: &mut [i64],
-    side: usize,
-    level: usize,
-    n: usize,
-) {
-    let p = block_in_level(side, level, n);
-    let s = label(labels, piece);
-    let w = signs(piece_values(words, covering, piece, square, corner(side, level, n)));
+// Stores the results of a block's piece with this label.
+fn put_result(plane: &mut [i64], side: usize, p: Spot, s: u32, w: Four) {
     put_four(
         plane,
         side,
-        band_side(side, level),
+        band_side(side, p.level),
         result_row(p.row, s),
         result_col(p.col, s),
         w,
     );
+}
+
+fn get_result(plane: &[i64], side: usize, p: Spot, s: u32) -> Four {
+    get_four(
+        plane,
+        side,
+        band_side(side, p.level),
+        result_row(p.row, s),
+        result_col(p.col, s),
+    )
+}
+
+fn split_pieces(
+    words: &[u8],
+    covering: u8,
+    square: &[i64],
+    plane: &mut [i64],
+    side: usize,
+    p: Spot,
+) {
+    let labels = best_labels(words, covering);
+    let mut piece: u8 = 0;
+    while piece < 4 {
+        let w = piece_result(words, covering, piece, square, corner(side, p));
+        put_result(plane, side, p, label(labels, piece), w);
+        piece += 1;
+    }
 }
 
 fn split_block(
@@ -192,15 +194,12 @@ fn split_block(
     level: usize,
     n: usize,
 ) {
+    let p = block_in_level(side, level, n);
     let start = blocks_before(side, level);
     let now = plus(start, n);
-    let covering = choose(words, square, corner(side, level, n), coverings, start, now);
+    let covering = choose(words, square, corner(side, p), coverings, start, now);
     put_byte(coverings, now, covering);
-    let labels = best_labels(words, covering);
-    split_piece(words, covering, labels, 0, square, plane, side, level, n);
-    split_piece(words, covering, labels, 1, square, plane, side, level, n);
-    split_piece(words, covering, labels, 2, square, plane, side, level, n);
-    split_piece(words, covering, labels, 3, square, plane, side, level, n);
+    split_pieces(words, covering, square, plane, side, p);
 }
 
 fn split_level(
@@ -211,7 +210,7 @@ fn split_level(
     side: usize,
     level: usize,
 ) {
-    copy_square(plane, scratch, side, band_side(side, minus(level, 1)));
+    copy_square(plane, scratch, side, level);
     let blocks = level_blocks(side, level);
     let mut n: usize = 0;
     while n < blocks {
@@ -236,6 +235,31 @@ fn split(
     clear(scratch);
 }
 
+// Checks 1 to 4; the last three are the lengths of their slices.
+fn decompose_refusal(
+    side: usize,
+    levels: usize,
+    samples: &[u16],
+    plane: usize,
+    coverings: usize,
+    scratch: usize,
+) -> u32 {
+    let bad = lengths(side, levels, plane, coverings);
+    if bad != 0 {
+        return bad;
+    }
+    if samples.len() != plane {
+        return 3;
+    }
+    if scratch != plane {
+        return 3;
+    }
+    if !all_samples(samples) {
+        return 4;
+    }
+    0
+}
+
 // Decomposes a picture. `words` are those of `list_words`.
 pub fn decompose(
     words: &[u8],
@@ -246,24 +270,16 @@ pub fn decompose(
     coverings: &mut [u8],
     scratch: &mut [i64],
 ) -> u32 {
-    let bad = side_and_depth(side, levels);
+    let bad = decompose_refusal(
+        side,
+        levels,
+        samples,
+        plane.len(),
+        coverings.len(),
+        scratch.len(),
+    );
     if bad != 0 {
         return bad;
-    }
-    if samples.len() != area(side) {
-        return 3;
-    }
-    if plane.len() != area(side) {
-        return 3;
-    }
-    if scratch.len() != area(side) {
-        return 3;
-    }
-    if coverings.len() != all_blocks(side, levels) {
-        return 3;
-    }
-    if !all_samples(samples) {
-        return 4;
     }
     load(samples, plane);
     split(words, side, levels, plane, scratch, coverings);
@@ -325,27 +341,32 @@ fn join_cell(
     labels: u32,
     cell: usize,
     square: &[i64],
+    side: usize,
+    levels: usize,
+    p: Spot,
+) -> i64 {
+    let s = label(labels, piece_at(words, covering, cell));
+    let w = get_result(square, side, p, s);
+    let q = signs(weighted_four(w, minus(levels, p.level)));
+    pick(q, earlier(words, covering, cell))
+}
+
+fn join_cells(
+    words: &[u8],
+    covering: u8,
+    square: &[i64],
     plane: &mut [i64],
     side: usize,
     levels: usize,
-    level: usize,
-    n: usize,
+    p: Spot,
 ) {
-    let p = block_in_level(side, level, n);
-    let s = label(labels, piece_at(words, covering, cell));
-    let w = get_four(
-        square,
-        side,
-        band_side(side, level),
-        result_row(p.row, s),
-        result_col(p.col, s),
-    );
-    let q = signs(weighted_four(w, minus(levels, level)));
-    put_value(
-        plane,
-        cell_index(corner(side, level, n), cell),
-        pick(q, earlier(words, covering, cell)),
-    );
+    let labels = best_labels(words, covering);
+    let mut cell: usize = 0;
+    while cell < 16 {
+        let v = join_cell(words, covering, labels, cell, square, side, levels, p);
+        put_value(plane, cell_index(corner(side, p), cell), v);
+        cell += 1;
+    }
 }
 
 fn join_block(
@@ -359,23 +380,8 @@ fn join_block(
     n: usize,
 ) {
     let covering = byte_at(coverings, plus(blocks_before(side, level), n));
-    let labels = best_labels(words, covering);
-    let mut cell: usize = 0;
-    while cell < 16 {
-        join_cell(
-            words,
-            covering,
-            labels,
-            cell,
-            square,
-            plane,
-            side,
-            levels,
-            level,
-            n,
-        );
-        cell += 1;
-    }
+    let p = block_in_level(side, level, n);
+    join_cells(words, covering, square, plane, side, levels, p);
 }
 
 fn join_level(
@@ -387,7 +393,7 @@ fn join_level(
     levels: usize,
     level: usize,
 ) {
-    copy_square(plane, scratch, side, band_side(side, minus(level, 1)));
+    copy_square(plane, scratch, side, level);
     let blocks = level_blocks(side, level);
     let mut n: usize = 0;
     while n < blocks {
@@ -439,6 +445,33 @@ fn round_all(numerators: &[i64], samples: &mut [u16], levels: usize) {
     }
 }
 
+// Checks 1, 2, 3, 5 and 6; the last three are the lengths of their slices.
+fn restore_refusal(
+    side: usize,
+    levels: usize,
+    plane: &[i64],
+    coverings: &[u8],
+    scratch: usize,
+    numerators: usize,
+    samples: usize,
+) -> u32 {
+    let n = plane.len();
+    let bad = lengths(side, levels, n, coverings.len());
+    if bad != 0 {
+        return bad;
+    }
+    if scratch != n {
+        return 3;
+    }
+    if numerators != n {
+        return 3;
+    }
+    if samples != n {
+        return 3;
+    }
+    contents(side, levels, plane, coverings)
+}
+
 // Restores a picture from its plane. `words` are those of `list_words`.
 pub fn restore(
     words: &[u8],
@@ -450,32 +483,19 @@ pub fn restore(
     numerators: &mut [i64],
     samples: &mut [u16],
 ) -> u32 {
-    let bad = side_and_depth(side, levels);
+    let bad = restore_refusal(
+        side,
+        levels,
+        plane,
+        coverings,
+        scratch.len(),
+        numerators.len(),
+        samples.len(),
+    );
     if bad != 0 {
         return bad;
     }
-    if plane.len() != area(side) {
-        return 3;
-    }
-    if coverings.len() != all_blocks(side, levels) {
-        return 3;
-    }
-    if scratch.len() != area(side) {
-        return 3;
-    }
-    if numerators.len() != area(side) {
-        return 3;
-    }
-    if samples.len() != area(side) {
-        return 3;
-    }
-    if !all_coverings(coverings) {
-        return 5;
-    }
-    if !all_in_range(side, levels, plane) {
-        return 6;
-    }
-    copy_square(plane, numerators, side, side);
+    copy_square(plane, numerators, side, 1);
     join(words, coverings, numerators, scratch, side, levels);
     round_all(numerators, samples, levels);
     0

@@ -3,7 +3,7 @@ fn main() {
     let mut text = io::large_buffer();
     let mut out = io::large_buffer();
     let got = io::read_full(0, &mut text);
-    let n = plain::cutter::cutter(&text[..got], &mut out);
+    let n = plain_cutter::cutter(&text[..got], &mut out);
     if n <= 65536 {
         io::write_all(1, &out[..n]);
     }

@@ -1,46 +1,14 @@
 // Planes, of which the largest entries are kept or which are cut by a threshold, by the coder and by the plain second implementation.
-use crate::cases::Case;
-use crate::tally::Tally;
-use crate::tally::Verdict;
-use crate::tally::same_values;
-use plain::outcome::Outcome;
-use refusals::Counted;
-
-// An answer with a number as the second implementation gives it.
-pub fn outcome(c: Counted) -> Outcome {
-    match c {
-        Counted::Count(n) => Outcome {
-            refusal: 0,
-            a: n,
-            b: 0,
-        },
-        Counted::Refused(r) => Outcome {
-            refusal: refusals::number(r) as u32,
-            a: 0,
-            b: 0,
-        },
-    }
-}
-
-// No answer: a slice was too short for its case, which counts as a difference.
-pub fn nothing(number: u32) -> Outcome {
-    Outcome {
-        refusal: number,
-        a: 0,
-        b: 0,
-    }
-}
-
-// The same number, and the same count, or side and levels.
-pub fn settled(x: Outcome, y: Outcome, same: bool) -> Verdict {
-    if x.a != y.a {
-        return Verdict::Differs;
-    }
-    if x.b != y.b {
-        return Verdict::Differs;
-    }
-    crate::tally::judged(x.refusal, y.refusal, same)
-}
+use case_planes::case_at;
+use case_planes::fill;
+use cases::answers::nothing;
+use cases::answers::outcome;
+use cases::answers::settled;
+use cases::inputs::Case;
+use cases::tally::Tally;
+use cases::tally::Verdict;
+use cases::tally::same_values;
+use plain_frame::outcome::Outcome;
 
 fn keep(k: Case, plane: &mut [i64], quota: u64) -> Outcome {
     let n = k.n;
@@ -82,7 +50,7 @@ fn entries(k: Case) -> usize {
         low = low / 4;
         left -= 1;
     }
-    crate::safe::minus(k.n, low)
+    cases::safe::minus(k.n, low)
 }
 
 // The quotas: none, one, three, half, all, and one more than all.
@@ -94,7 +62,7 @@ fn quota(k: Case, which: usize) -> u64 {
         2 => 3,
         3 => (all / 2) as u64,
         4 => all as u64,
-        _ => crate::safe::plus(all, 1) as u64,
+        _ => cases::safe::plus(all, 1) as u64,
     }
 }
 
@@ -113,7 +81,7 @@ fn limit(which: usize) -> u64 {
 fn kept_alike(k: Case, most: u64) -> Verdict {
     let mut plane = [0i64; 1024];
     let mut coverings = [1u8; 512];
-    crate::planes::fill(k, &mut plane, &mut coverings);
+    fill(k, &mut plane, &mut coverings);
     let mut plane2 = plane;
     let x = keep(k, &mut plane, most);
     let y = keep_plainly(k, &mut plane2, most);
@@ -124,7 +92,7 @@ fn kept_alike(k: Case, most: u64) -> Verdict {
 fn cut_alike(k: Case, least: u64) -> Verdict {
     let mut plane = [0i64; 1024];
     let mut coverings = [1u8; 512];
-    crate::planes::fill(k, &mut plane, &mut coverings);
+    fill(k, &mut plane, &mut coverings);
     let mut plane2 = plane;
     let x = threshold(k, &mut plane, least);
     let y = threshold_plainly(k, &mut plane2, least);
@@ -133,12 +101,12 @@ fn cut_alike(k: Case, least: u64) -> Verdict {
 
 // The planes of the group `restore`, each with every quota.
 pub fn keep_group() -> Tally {
-    let mut t = crate::tally::none();
+    let mut t = cases::tally::none();
     let mut c: usize = 0;
     while c < 3528 {
-        let k = crate::cases::smaller(crate::planes::case_at(c / 6), c / 6);
+        let k = cases::inputs::smaller(case_at(c / 6), c / 6);
         let v = kept_alike(k, quota(k, c % 6));
-        t = crate::tally::counted(t, v);
+        t = cases::tally::counted(t, v);
         c += 1;
     }
     t
@@ -146,11 +114,11 @@ pub fn keep_group() -> Tally {
 
 // The planes of the group `restore`, each with every threshold.
 pub fn threshold_group() -> Tally {
-    let mut t = crate::tally::none();
+    let mut t = cases::tally::none();
     let mut c: usize = 0;
     while c < 3528 {
-        let v = cut_alike(crate::planes::case_at(c / 6), limit(c % 6));
-        t = crate::tally::counted(t, v);
+        let v = cut_alike(case_at(c / 6), limit(c % 6));
+        t = cases::tally::counted(t, v);
         c += 1;
     }
     t

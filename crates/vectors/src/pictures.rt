@@ -1,43 +1,12 @@
 // Pictures, decomposed by the coder and by the plain second implementation.
-use crate::cases::Case;
-use crate::cases::case_of;
-use crate::cases::fill_picture;
-use crate::tally::Tally;
-use crate::tally::Verdict;
-use crate::tally::same_bytes;
-use crate::tally::same_values;
-
-// The coder on the front parts of the slices. 1000 where they are too short, which the second implementation never gives.
-pub fn decompose(
-    k: Case,
-    samples: &[u16],
-    plane: &mut [i64],
-    coverings: &mut [u8],
-    scratch: &mut [i64],
-) -> u32 {
-    let n = k.n;
-    let b = k.b;
-    if samples.len() < n {
-        return 1000;
-    }
-    if plane.len() < n {
-        return 1000;
-    }
-    if scratch.len() < n {
-        return 1000;
-    }
-    if coverings.len() < b {
-        return 1000;
-    }
-    refusals::code(coder::decompose(
-        k.side,
-        k.levels,
-        &samples[..n],
-        &mut plane[..n],
-        &mut coverings[..b],
-        &mut scratch[..n],
-    ))
-}
+use case_planes::decompose;
+use cases::inputs::Case;
+use cases::inputs::case_of;
+use cases::inputs::fill_picture;
+use cases::tally::Tally;
+use cases::tally::Verdict;
+use cases::tally::same_bytes;
+use cases::tally::same_values;
 
 // The second implementation on the front parts of the slices.
 fn decompose_plainly(
@@ -93,7 +62,7 @@ fn compare(words: &[u8], k: Case, samples: &[u16]) -> Verdict {
     let p = same_values(&plane, &plane2);
     let c = same_bytes(&coverings, &coverings2);
     let s = same_values(&scratch, &scratch2);
-    crate::tally::judged(a, b, p && c && s)
+    cases::tally::judged(a, b, p && c && s)
 }
 
 fn one_picture(words: &[u8], k: Case) -> Verdict {
@@ -105,19 +74,19 @@ fn one_picture(words: &[u8], k: Case) -> Verdict {
 // Case c of this group: every side, levels from none to five, every kind of picture.
 fn case_at(c: usize) -> Case {
     case_of(
-        crate::cases::side_of(c % 7),
+        cases::inputs::side_of(c % 7),
         c / 7 % 6,
         c / 42 % 8,
-        crate::cases::mixed(c),
+        cases::inputs::mixed(c),
     )
 }
 
 pub fn group(words: &[u8]) -> Tally {
-    let mut t = crate::tally::none();
+    let mut t = cases::tally::none();
     let mut c: usize = 0;
     while c < 6720 {
         let v = one_picture(words, case_at(c));
-        t = crate::tally::counted(t, v);
+        t = cases::tally::counted(t, v);
         c += 1;
     }
     t

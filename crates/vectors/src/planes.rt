@@ -1,13 +1,11 @@
 // Planes, restored by the coder and by the plain second implementation: those of the pictures, and planes of any values.
-use crate::cases::Case;
-use crate::cases::case_of;
-use crate::cases::fill_coverings;
-use crate::cases::fill_picture;
-use crate::cases::fill_plane;
-use crate::tally::Tally;
-use crate::tally::Verdict;
-use crate::tally::same_samples;
-use crate::tally::same_values;
+use case_planes::case_at;
+use case_planes::fill;
+use cases::inputs::Case;
+use cases::tally::Tally;
+use cases::tally::Verdict;
+use cases::tally::same_samples;
+use cases::tally::same_values;
 
 // The coder on the front parts of the slices. 1000 where they are too short, which the second implementation never gives.
 fn restore(
@@ -113,25 +111,7 @@ fn compare(words: &[u8], k: Case, plane: &[i64], coverings: &[u8]) -> Verdict {
     let n = same_values(&numerators, &numerators2);
     let p = same_samples(&samples, &samples2);
     let s = same_values(&scratch, &scratch2);
-    crate::tally::judged(a, b, n && p && s)
-}
-
-// The plane and the coverings of a picture, by the coder.
-fn of_picture(k: Case, plane: &mut [i64], coverings: &mut [u8]) {
-    let mut samples = [0u16; 1024];
-    let mut scratch = [0i64; 1024];
-    fill_picture(k, &mut samples);
-    crate::pictures::decompose(k, &samples, plane, coverings, &mut scratch);
-}
-
-// The plane and the coverings of a case: of its picture for the kinds below 8, and of any values for those above.
-pub fn fill(k: Case, plane: &mut [i64], coverings: &mut [u8]) {
-    if k.kind < 8 {
-        of_picture(k, plane, coverings);
-    } else {
-        fill_plane(k, plane);
-        fill_coverings(k, coverings);
-    }
+    cases::tally::judged(a, b, n && p && s)
 }
 
 fn one_plane(words: &[u8], k: Case) -> Verdict {
@@ -141,22 +121,12 @@ fn one_plane(words: &[u8], k: Case) -> Verdict {
     compare(words, k, &plane, &coverings)
 }
 
-// Case c of this group: every side, levels from none to five, every kind of plane.
-pub fn case_at(c: usize) -> Case {
-    case_of(
-        crate::cases::side_of(c % 7),
-        c / 7 % 6,
-        c / 42 % 14,
-        crate::cases::mixed(c),
-    )
-}
-
 pub fn group(words: &[u8]) -> Tally {
-    let mut t = crate::tally::none();
+    let mut t = cases::tally::none();
     let mut c: usize = 0;
     while c < 5880 {
         let v = one_plane(words, case_at(c));
-        t = crate::tally::counted(t, v);
+        t = cases::tally::counted(t, v);
         c += 1;
     }
     t

@@ -7,10 +7,16 @@ use Rattle.plain.proofs.pyramid.copy_square.Statement.{statement}
 use Rattle.plain.proofs.pyramid.copy_square.Tie as tie
 
 abbrev Inv-loop : tie.InvT-loop
-Inv-loop from to₀ side n end i₀ to i = length to ≡ length to₀
+Inv-loop from to₀ side level n end i₀ to i = length to ≡ length to₀
 
 abbrev μ-loop : tie.MeasureT-loop
-μ-loop from to₀ side n end i₀ to i = end - i
+μ-loop from to₀ side level n end i₀ to i = end - i
+
+minus-requires : tie.Need-minus-requires Inv-loop μ-loop
+minus-requires c κs = tt
+
+band-side-requires : tie.Need-band-side-requires Inv-loop μ-loop
+band-side-requires c κs = tt
 
 area-requires : tie.Need-area-requires Inv-loop μ-loop
 area-requires c κs = tt
@@ -57,6 +63,8 @@ copy-square-spec =
     (tie.spec
     Inv-loop
     μ-loop
+    minus-requires
+    band-side-requires
     area-requires
     loop-holds
     over-requires

@@ -12,12 +12,6 @@ Inv-loop words coverings plane₀ scratch side levels level blocks n₀ plane n 
 abbrev μ-loop : tie.MeasureT-loop
 μ-loop words coverings plane₀ scratch side levels level blocks n₀ plane n = blocks - n
 
-minus-requires : tie.Need-minus-requires Inv-loop μ-loop
-minus-requires c κs = tt
-
-band-side-requires : tie.Need-band-side-requires Inv-loop μ-loop
-band-side-requires c κs = tt
-
 copy-square-requires : tie.Need-copy-square-requires Inv-loop μ-loop
 copy-square-requires c κs = tt
 
@@ -54,8 +48,6 @@ join-level-spec =
     (tie.spec
     Inv-loop
     μ-loop
-    minus-requires
-    band-side-requires
     copy-square-requires
     level-blocks-requires
     loop-holds

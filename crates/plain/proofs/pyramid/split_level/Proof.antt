@@ -12,12 +12,6 @@ Inv-loop words plane₀ scratch coverings₀ side level blocks n₀ plane coveri
 abbrev μ-loop : tie.MeasureT-loop
 μ-loop words plane₀ scratch coverings₀ side level blocks n₀ plane coverings n = blocks - n
 
-minus-requires : tie.Need-minus-requires Inv-loop μ-loop
-minus-requires c κs = tt
-
-band-side-requires : tie.Need-band-side-requires Inv-loop μ-loop
-band-side-requires c κs = tt
-
 copy-square-requires : tie.Need-copy-square-requires Inv-loop μ-loop
 copy-square-requires c κs = tt
 
@@ -57,8 +51,6 @@ split-level-spec =
     (tie.spec
     Inv-loop
     μ-loop
-    minus-requires
-    band-side-requires
     copy-square-requires
     level-blocks-requires
     loop-holds

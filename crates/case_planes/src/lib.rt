@@ -1,0 +1,69 @@
+// The planes of the cases that the programs `vectors` and `vectors_text` compare on: the coder's planes of pictures, and planes of any values. It is
+// proved to be safe and to end, and nothing more.
+use cases::inputs::Case;
+use cases::inputs::case_of;
+use cases::inputs::fill_coverings;
+use cases::inputs::fill_picture;
+use cases::inputs::fill_plane;
+use cases::inputs::mixed;
+use cases::inputs::side_of;
+
+// The coder on the front parts of the slices. 1000 where they are too short, which the second implementation never gives.
+pub fn decompose(
+    k: Case,
+    samples: &[u16],
+    plane: &mut [i64],
+    coverings: &mut [u8],
+    scratch: &mut [i64],
+) -> u32 {
+    let n = k.n;
+    let b = k.b;
+    if samples.len() < n {
+        return 1000;
+    }
+    if plane.len() < n {
+        return 1000;
+    }
+    if scratch.len() < n {
+        return 1000;
+    }
+    if coverings.len() < b {
+        return 1000;
+    }
+    refusals::code(coder::decompose(
+        k.side,
+        k.levels,
+        &samples[..n],
+        &mut plane[..n],
+        &mut coverings[..b],
+        &mut scratch[..n],
+    ))
+}
+
+// The plane and the coverings of a picture, by the coder.
+fn of_picture(k: Case, plane: &mut [i64], coverings: &mut [u8]) {
+    let mut samples = [0u16; 1024];
+    let mut scratch = [0i64; 1024];
+    fill_picture(k, &mut samples);
+    decompose(k, &samples, plane, coverings, &mut scratch);
+}
+
+// The plane and the coverings of a case: of its picture for the kinds below 8, and of any values for those above.
+pub fn fill(k: Case, plane: &mut [i64], coverings: &mut [u8]) {
+    if k.kind < 8 {
+        of_picture(k, plane, coverings);
+    } else {
+        fill_plane(k, plane);
+        fill_coverings(k, coverings);
+    }
+}
+
+// Case c of a group of planes: every side, levels from none to five, every kind of plane.
+pub fn case_at(c: usize) -> Case {
+    case_of(
+        side_of(c % 7),
+        c / 7 % 6,
+        c / 42 % 14,
+        mixed(c),
+    )
+}

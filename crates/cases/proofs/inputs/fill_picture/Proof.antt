@@ -1,0 +1,64 @@
+-- `cases::inputs::fill_picture` is safe and ends. Assumes nothing.
+use mathlib.Core.Path.{_≡_}
+use Prim.Native.Nat.{_-_}
+use lib.ListN.{length}
+use borrow.Author.Needs.{needs}
+use Rattle.cases.proofs.inputs.fill_picture.Statement.{statement}
+use Rattle.cases.proofs.inputs.fill_picture.Tie as tie
+
+abbrev Inv-loop : tie.InvT-loop
+Inv-loop k samples₀ x₀ i₀ samples x i = length samples ≡ length samples₀
+
+abbrev μ-loop : tie.MeasureT-loop
+μ-loop k samples₀ x₀ i₀ samples x i = length samples - i
+
+next-requires : tie.Need-next-requires Inv-loop μ-loop
+next-requires c κs = search needs
+
+loop-holds : tie.Need-loop-holds Inv-loop μ-loop
+loop-holds c = search needs
+
+next-requires-2 : tie.Need-next-requires-2 Inv-loop μ-loop
+next-requires-2 c κs = search needs
+
+upper-requires : tie.Need-upper-requires Inv-loop μ-loop
+upper-requires c κs = search needs
+
+sample-requires : tie.Need-sample-requires Inv-loop μ-loop
+sample-requires c κs = search needs
+
+put-sample-requires : tie.Need-put-sample-requires Inv-loop μ-loop
+put-sample-requires c κs = search needs
+
+add-i : tie.Need-add-i Inv-loop μ-loop
+add-i c = search needs
+
+loop-less : tie.Need-loop-less Inv-loop μ-loop
+loop-less c = search needs
+
+loop-again : tie.Need-loop-again Inv-loop μ-loop
+loop-again c = search needs
+
+same-length : tie.Need-same-length Inv-loop μ-loop
+same-length c = search needs
+
+returns : tie.Need-returns Inv-loop μ-loop
+returns c = search needs
+
+pub fill-picture-spec : {M : Type 1} → statement M
+fill-picture-spec =
+    tie.close
+    (tie.spec
+    Inv-loop
+    μ-loop
+    next-requires
+    loop-holds
+    next-requires-2
+    upper-requires
+    sample-requires
+    put-sample-requires
+    add-i
+    loop-less
+    loop-again
+    same-length
+    returns)

@@ -1,0 +1,6 @@
+// What the programs `vectors` and `vectors_text` share: the generated inputs, how two answers to a case are compared, and how a group is counted and
+// told. It is proved to be safe and to end, and nothing more.
+pub mod answers;
+pub mod inputs;
+pub mod safe;
+pub mod tally;

@@ -1,0 +1,55 @@
+-- `vectors_text::sheets::write_group` is safe and ends. Assumes nothing.
+use Prim.Native.Nat.{_-_}
+use Prim.Native.Nat.{_≤_}
+use borrow.Author.Needs.{needs}
+use Rattle.vectors_text.proofs.sheets.write_group.Statement.{statement}
+use Rattle.vectors_text.proofs.sheets.write_group.Tie as tie
+
+abbrev Inv-loop : tie.InvT-loop
+Inv-loop t₀ c₀ t c = c ≤ 2352
+
+abbrev μ-loop : tie.MeasureT-loop
+μ-loop t₀ c₀ t c = 2352 - c
+
+none-requires : tie.Need-none-requires Inv-loop μ-loop
+none-requires c κs = search needs
+
+loop-holds : tie.Need-loop-holds Inv-loop μ-loop
+loop-holds c = search needs
+
+case-at-requires : tie.Need-case-at-requires Inv-loop μ-loop
+case-at-requires c κs = search needs
+
+written-alike-requires : tie.Need-written-alike-requires Inv-loop μ-loop
+written-alike-requires c κs = search needs
+
+counted-requires : tie.Need-counted-requires Inv-loop μ-loop
+counted-requires c κs = search needs
+
+add-c : tie.Need-add-c Inv-loop μ-loop
+add-c c = search needs
+
+loop-less : tie.Need-loop-less Inv-loop μ-loop
+loop-less c = search needs
+
+loop-again : tie.Need-loop-again Inv-loop μ-loop
+loop-again c = search needs
+
+returns : tie.Need-returns Inv-loop μ-loop
+returns c = search needs
+
+pub write-group-spec : {M : Type 1} → statement M
+write-group-spec =
+    tie.close
+    (tie.spec
+    Inv-loop
+    μ-loop
+    none-requires
+    loop-holds
+    case-at-requires
+    written-alike-requires
+    counted-requires
+    add-c
+    loop-less
+    loop-again
+    returns)
