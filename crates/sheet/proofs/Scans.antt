@@ -1,6 +1,6 @@
 -- Lines along places, one place at a time. Assumes nothing.
 use mathlib.Core.Path.{_≡_, refl, sym, ap, _∙_}
-use mathlib.Core.Bool.{Bool, true, false, cond, _&&_}
+use mathlib.Core.Bool.{Bool, true, false, cond, not, _&&_}
 use mathlib.Core.List.{List, [], _∷_, map}
 use mathlib.Core.Option.{Option, none, some}
 use Prim.Native.Nat.{ℕ, zero, suc, _<_, _≤_}
@@ -36,19 +36,18 @@ some-before : {A : Type 0} (a : A) (o : Option (List A)) → isSome (before a o)
 some-before a none = refl
 some-before a (some l) = refl
 
-pub some-next : (p : Place) (ps : List Place) (rs : List (List ℤ)) → zeroHere p rs ≡ false → isSome (valuesOf (p ∷ ps) rs) ≡ isSome (valuesOf ps (linesPast p rs))
-some-next p ps rs e =
-    ap isSome (values-cons p ps rs ∙ ap (λ (b : Bool). cond b none (before (valueHere p rs) (valuesOf ps (linesPast p rs)))) e)
-    ∙ some-before (valueHere p rs) (valuesOf ps (linesPast p rs))
+some-cons : (p : Place) (ps : List Place) (rs : List (List ℤ)) → isSome (valuesOf (p ∷ ps) rs) ≡ (not (zeroHere p rs) && isSome (valuesOf ps (linesPast p rs)))
+some-cons p ps rs = ap isSome (values-cons p ps rs) ∙ go (zeroHere p rs)
+  where
+    go : (z : Bool) → isSome (cond z none (before (valueHere p rs) (valuesOf ps (linesPast p rs)))) ≡ (not z && isSome (valuesOf ps (linesPast p rs)))
+    go true = refl
+    go false = some-before (valueHere p rs) (valuesOf ps (linesPast p rs))
 
-pub some-zero : (p : Place) (ps : List Place) (rs : List (List ℤ)) → zeroHere p rs ≡ true → isSome (valuesOf (p ∷ ps) rs) ≡ false
-some-zero p ps rs e = ap isSome (values-cons p ps rs ∙ ap (λ (b : Bool). cond b none (before (valueHere p rs) (valuesOf ps (linesPast p rs)))) e)
-
-pub some-end : (rs : List (List ℤ)) → rs ≡ [] → isSome (valuesOf [] rs) ≡ true
+some-end : (rs : List (List ℤ)) → rs ≡ [] → isSome (valuesOf [] rs) ≡ true
 unfolding valuesOf
 some-end rs e = ap (λ l. isSome (valuesOf [] l)) e
 
-pub some-over : (r : List ℤ) (rs l : List (List ℤ)) → l ≡ r ∷ rs → isSome (valuesOf [] l) ≡ false
+some-over : (r : List ℤ) (rs l : List (List ℤ)) → l ≡ r ∷ rs → isSome (valuesOf [] l) ≡ false
 unfolding valuesOf
 some-over r rs l e = ap (λ l. isSome (valuesOf [] l)) e
 
@@ -79,13 +78,48 @@ fit-plane R P (p ∷ ps) rs e =
     let t : map (at P) ps ≡ valuesAlong ps (linesPast p rs) = cc in
     (λ i. fitsRange R p (h i) && fit-plane R P ps (linesPast p rs) t i)
 
-pub fit-cons : (R : ℕ) (p : Place) (ps : List Place) (rs : List (List ℤ)) → fitAlong R (p ∷ ps) rs ≡ (fitsRange R p (valueHere p rs) && fitAlong R ps (linesPast p rs))
+fit-cons : (R : ℕ) (p : Place) (ps : List Place) (rs : List (List ℤ)) → fitAlong R (p ∷ ps) rs ≡ (fitsRange R p (valueHere p rs) && fitAlong R ps (linesPast p rs))
 unfolding fitAlong
 fit-cons R p ps rs = refl
 
-pub fit-end : (R : ℕ) (rs : List (List ℤ)) → fitAlong R [] rs ≡ true
+fit-end : (R : ℕ) (rs : List (List ℤ)) → fitAlong R [] rs ≡ true
 unfolding fitAlong
 fit-end R rs = refl
+
+-- two tests and what is left of a third
+and-assoc : (a b c : Bool) → ((a && b) && c) ≡ (a && (b && c))
+and-assoc true b c = refl
+and-assoc false b c = refl
+
+and-true : (a : Bool) → (a && true) ≡ a
+and-true true = refl
+and-true false = refl
+
+and-false : (a : Bool) → (a && false) ≡ false
+and-false true = refl
+and-false false = refl
+
+-- a pass along the places: what was found so far, and what is left
+pub some-again : (p : Place) (t ps : List Place) (rs rs′ : List (List ℤ)) (a z c : Bool) → ps ≡ p ∷ t → rs′ ≡ linesPast p rs → c ≡ (a && not z) → z ≡ zeroHere p rs
+    → (c && isSome (valuesOf t rs′)) ≡ (a && isSome (valuesOf ps rs))
+some-again p t ps rs rs′ a z c e f g h =
+    (λ i. g i && isSome (valuesOf t (f i))) ∙ and-assoc a (not z) (isSome (valuesOf t (linesPast p rs)))
+    ∙ ap (λ (x : Bool). a && x) ((λ i. not (h i) && isSome (valuesOf t (linesPast p rs))) ∙ sym (some-cons p t rs) ∙ sym (ap (λ l. isSome (valuesOf l rs)) e))
+
+pub fit-again : (R : ℕ) (p : Place) (t ps : List Place) (rs rs′ : List (List ℤ)) (a b c : Bool) → ps ≡ p ∷ t → rs′ ≡ linesPast p rs → c ≡ (a && b) → b ≡ fitsRange R p (valueHere p rs)
+    → (c && fitAlong R t rs′) ≡ (a && fitAlong R ps rs)
+fit-again R p t ps rs rs′ a b c e f g h =
+    (λ i. g i && fitAlong R t (f i)) ∙ and-assoc a b (fitAlong R t (linesPast p rs))
+    ∙ ap (λ (x : Bool). a && x) ((λ i. h i && fitAlong R t (linesPast p rs)) ∙ sym (fit-cons R p t rs) ∙ sym (ap (λ l. fitAlong R l rs) e))
+
+pub some-done : (a : Bool) (ps : List Place) (rs : List (List ℤ)) → ps ≡ [] → rs ≡ [] → a ≡ (a && isSome (valuesOf ps rs))
+some-done a ps rs e f = sym (ap (λ (x : Bool). a && x) (ap (λ l. isSome (valuesOf l rs)) e ∙ some-end rs f) ∙ and-true a)
+
+pub some-left : (a : Bool) (ps : List Place) (r : List ℤ) (rs l : List (List ℤ)) → ps ≡ [] → l ≡ r ∷ rs → false ≡ (a && isSome (valuesOf ps l))
+some-left a ps r rs l e f = sym (ap (λ (x : Bool). a && x) (ap (λ q. isSome (valuesOf q l)) e ∙ some-over r rs l f) ∙ and-false a)
+
+pub fit-done : (R : ℕ) (a : Bool) (ps : List Place) (rs : List (List ℤ)) → ps ≡ [] → a ≡ (a && fitAlong R ps rs)
+fit-done R a ps rs e = sym (ap (λ (x : Bool). a && x) (ap (λ l. fitAlong R l rs) e ∙ fit-end R rs) ∙ and-true a)
 
 -- storing along the places
 pub store-next : (h : ℕ) (p : Place) (ps : List Place) (rs : List (List ℤ)) (plane : List ℤ)

@@ -91,13 +91,13 @@ pub fn read(text: &[u8], plane: &mut [i64], coverings: &mut [u8]) -> Reading
     if !tiles::in_order(text, b, n, r) {
         return Reading::Refused(Refusal::Sequence);
     }
-    if !scan::in_sequence(text, e, n, r) {
+    if !l.rising {
         return Reading::Refused(Refusal::Sequence);
     }
     if !tiles::numbered(text, b, blocks) {
         return Reading::Refused(Refusal::Covering);
     }
-    if !scan::in_ranges(text, e, n, r) {
+    if !l.fitting {
         return Reading::Refused(Refusal::Coefficient);
     }
     tiles::store_covers(coverings, text, b);

@@ -1,13 +1,13 @@
 // The lines of a sheet's entries, read along a walk.
 ghost use mathlib.Core.Path.{_≡_};
-ghost use mathlib.Core.Bool.{true};
+ghost use mathlib.Core.Bool.{true, _&&_};
 ghost use Prim.Native.Nat.{ℕ, _*_, _≤_};
 ghost use lib.IntN.{natAbs};
 ghost use Rattle.text.specs.Text.{limit};
 ghost use lib.ListN.{length};
 ghost use Rattle.pyramid.specs.Places.{planePlaces};
 ghost use Rattle.pyramid.specs.Sides.{isSide, isDepth};
-ghost use Rattle.text.specs.Lines.{linesAt};
+ghost use Rattle.text.specs.Lines.{linesAt, fivesAt};
 ghost use Rattle.text.proofs.Many.{five};
 ghost use Rattle.sheet.specs.Rows.{valuesOf, spread};
 ghost use Rattle.sheet.specs.Sheet.{isSome};
@@ -28,7 +28,7 @@ pub struct Here {
 
 // Looks at the line at the place `at`.
 fn look(s: &[u8], at: usize, k: Walk) -> Here
-    ensures { λ r. ⌜ (r .value ≡ valueHere (entryOf k) (linesAt five (now (s .entry)) at)) × (r .zero ≡ zeroHere (entryOf k) (linesAt five (now (s .entry)) at)) × (linesAt five (now (s .entry)) (r .next) ≡ linesPast (entryOf k) (linesAt five (now (s .entry)) at)) × (natAbs (r .value) ≤ limit) ⌝ }
+    ensures { λ r. ⌜ (r .value ≡ valueHere (entryOf k) (linesAt five (now (s .entry)) at)) × (r .zero ≡ zeroHere (entryOf k) (linesAt five (now (s .entry)) at)) × (linesAt five (now (s .entry)) (r .next) ≡ linesPast (entryOf k) (linesAt five (now (s .entry)) at)) × (natAbs (r .value) ≤ limit) × (fivesAt (now (s .entry)) (r .next) ≡ fivesAt (now (s .entry)) at) × (at ≤ length (now (s .entry)) → r .next ≤ length (now (s .entry))) ⌝ }
 {
     let LineOfFive::Of(f) = text::lines::read_five(s, at) else {
         return Here {
@@ -79,44 +79,57 @@ fn look(s: &[u8], at: usize, k: Walk) -> Here
     }
 }
 
-// Whether the lines from the place `at` on stand at places of the plane, rising in plane order, with values that are not 0.
-pub fn in_sequence(s: &[u8], at: usize, side: u32, levels: u32) -> bool
-    requires { ⌜ (isSide side ≡ true) × (isDepth levels side side ≡ true) ⌝ }
-    ensures { λ r. ⌜ r ≡ isSome (valuesOf (planePlaces levels side side) (linesAt five (now (s .entry)) at)) ⌝ }
+// Whether two tests hold.
+fn both(a: bool, b: bool) -> bool
+    ensures { λ r. ⌜ r ≡ (a && b) ⌝ }
 {
-    let mut k = places::walk::first_entry(side, levels);
-    let mut p = at;
-    while 0 < k.left {
-        let h = look(s, p, k);
-        if h.zero {
-            return false;
-        }
-        p = h.next;
-        k = places::walk::step(k, side);
+    if a {
+        return b;
     }
-    let LineOfFive::Of(_) = text::lines::read_five(s, p) else {
-        return true;
-    };
     false
 }
 
-// Whether the values of these lines are in their ranges.
-pub fn in_ranges(s: &[u8], at: usize, side: u32, levels: u32) -> bool
-    requires { ⌜ (isSide side ≡ true) × (isDepth levels side side ≡ true) ⌝ }
-    ensures { λ r. ⌜ r ≡ fitAlong levels (planePlaces levels side side) (linesAt five (now (s .entry)) at) ⌝ }
+// What one pass over the lines of the entries finds.
+pub struct Survey {
+    // The place past the lines.
+    pub past: usize,
+    // Whether they stand at places of the plane, rising in plane order, with values that are not 0.
+    pub rising: bool,
+    // Whether their values are in their ranges.
+    pub fitting: bool,
+}
+
+// Passes the lines from the place `at` on.
+pub fn look_along(s: &[u8], at: usize, side: u32, levels: u32) -> Survey
+    requires { ⌜ (isSide side ≡ true) × (isDepth levels side side ≡ true) × (at ≤ length (now s)) ⌝ }
+    ensures { λ r. ⌜ (r .past ≡ fivesAt (now (s .entry)) at) × (r .rising ≡ isSome (valuesOf (planePlaces levels side side) (linesAt five (now (s .entry)) at))) × (r .fitting ≡ fitAlong levels (planePlaces levels side side) (linesAt five (now (s .entry)) at)) ⌝ }
 {
     let mut k = places::walk::first_entry(side, levels);
     let mut p = at;
+    let mut rising = true;
+    let mut fitting = true;
     while 0 < k.left {
         let h = look(s, p, k);
         let v = h.value;
-        if !places::checks::fits_range(levels, k, v) {
-            return false;
-        }
+        let fits = places::checks::fits_range(levels, k, v);
+        fitting = both(fitting, fits);
+        rising = both(rising, !h.zero);
         p = h.next;
         k = places::walk::step(k, side);
     }
-    true
+    let LineOfFive::Of(f) = text::lines::read_five(s, p) else {
+        return Survey {
+            past: p,
+            rising,
+            fitting,
+        };
+    };
+    let past = text::lines::pass_fives(s, f.next);
+    Survey {
+        past,
+        rising: false,
+        fitting,
+    }
 }
 
 // Stores the values of these lines in a plane, and 0 at each place without a line.

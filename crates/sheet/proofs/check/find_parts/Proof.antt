@@ -130,13 +130,13 @@ returns-4 c = (
   laws,
 )
 
-pass-fives-requires : tie.Need-pass-fives-requires
-pass-fives-requires c κs = s5 c .within
+survey-entries-requires : tie.Need-survey-entries-requires
+survey-entries-requires c κs = s5 c .within
 
-s6 : (c : tie.After-pass-fives) → let g = c .before in RowsRead five (S (g .before .before .before .before .before .before .before .before .before .before .before .before .before .before .before)) (g .before .v .given .0 .0) (c .pass-fives .result)
-s6 c = let g = c .before in rows-at five (S (g .before .before .before .before .before .before .before .before .before .before .before .before .before .before .before)) (g .before .v .given .0 .0) (c .pass-fives .result) (c .pass-fives .ensures)
+s6 : (c : tie.After-survey-entries) → let g = c .before in RowsRead five (S (g .before .before .before .before .before .before .before .before .before .before .before .before .before .before .before)) (g .before .v .given .0 .0) (c .survey-entries .result .past)
+s6 c = let g = c .before in rows-at five (S (g .before .before .before .before .before .before .before .before .before .before .before .before .before .before .before)) (g .before .v .given .0 .0) (c .survey-entries .result .past) (c .survey-entries .ensures .0)
 
-ends : (c : tie.After-pass-fives) → let s = S (c .before .before .before .before .before .before .before .before .before .before .before .before .before .before .before .before) in eqb (c .pass-fives .result) (length s) ≡ isSome (parse sheetForm s)
+ends : (c : tie.After-survey-entries) → let s = S (c .before .before .before .before .before .before .before .before .before .before .before .before .before .before .before .before) in eqb (c .survey-entries .result .past) (length s) ≡ isSome (parse sheetForm s)
 ends c =
     let g = c .before in
     let h = g .before .before .before .before .before in
@@ -144,14 +144,14 @@ ends c =
     let j = i .before .before .before .before .before in
     let k = j .before .before .before .before in
     at-end (S k) (k .before .p .given .0 .0) (s1 k) (j .before .h .given .0 .0 .next) (s2 j) (i .before .t .given .0 .0) (h .pass-fours .result) (s3 i) (s4 h)
-    (g .before .v .given .0 .0) (c .pass-fives .result) (s5 g) (s6 c)
+    (g .before .v .given .0 .0) (c .survey-entries .result .past) (s5 g) (s6 c)
 
 returns-5 : tie.Need-returns-5
-returns-5 c = (sym (ends (c .before)) ∙ ne-eqb _ _ (c .if1 .taken), laws)
+returns-5 c = (sym (ends (c .before .before)) ∙ ne-eqb _ _ (c .if1 .taken), laws)
 
 returns-6 : tie.Need-returns-6
 returns-6 c =
-    let x = c .before in
+    let x = c .before .before in
     let g = x .before in
     let h = g .before .before .before .before .before in
     let i = h .before in
@@ -161,7 +161,7 @@ returns-6 c =
     let f = j .before .h .given .0 .0 in
     let e = c .if1 .left in
     let y = two-line (S k) p f (sym (j .before .before .before .read-two .ensures) ∙ j .before .h .given .1) in (
-      laid (S k) p (i .before .t .given .0 .0) (h .pass-fours .result) (g .before .v .given .0 .0) (x .pass-fives .result) f (s1 k) y (s3 i) (s4 h) (s5 g) (s6 x) (sym (ends x) ∙ eq-eqb _ _ e) (omega (arith, e)),
+      laid (S k) p (i .before .t .given .0 .0) (h .pass-fours .result) (g .before .v .given .0 .0) (x .survey-entries .result .past) f (x .survey-entries .result .rising) (x .survey-entries .result .fitting) (s1 k) y (s3 i) (s4 h) (s5 g) (s6 x) (sym (ends x) ∙ eq-eqb _ _ e) (omega (arith, e)) (x .survey-entries .ensures .1),
       laws,
     )
 
@@ -189,6 +189,6 @@ find-parts-spec =
     enum-known-v
     enum-told-4
     returns-4
-    pass-fives-requires
+    survey-entries-requires
     returns-5
     returns-6)

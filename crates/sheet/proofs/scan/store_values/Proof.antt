@@ -21,7 +21,7 @@ use Rattle.sheet.specs.Sheet.{isSome}
 use Rattle.sheet.specs.Scan.{valueHere, linesPast, zeroHere, valuesAlong, fitAlong}
 use Rattle.places.proofs.Sides.{passed}
 use Rattle.places.proofs.Steps.{present, ended}
-use Rattle.sheet.proofs.Scans.{some-next, some-zero, some-end, some-over, store-next, store-end}
+use Rattle.sheet.proofs.Scans.{store-next, store-end}
 use borrow.Author.Needs.{needs}
 use Rattle.sheet.proofs.scan.store_values.Statement.{statement}
 use Rattle.sheet.proofs.scan.store_values.Tie as tie
