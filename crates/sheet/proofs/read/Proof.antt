@@ -15,14 +15,14 @@ use Rattle.text.proofs.Many.{four, five}
 use Rattle.pyramid.specs.Plane.{allBlocks}
 use Rattle.pyramid.specs.Places.{planePlaces, blockPlaces}
 use Rattle.pyramid.specs.Sides.{isSide, isDepth}
-use Rattle.sheet.specs.declared.check.Layout.{Layout}
-use Rattle.sheet.specs.Parts.{LaidOut, FoundIn}
-use Rattle.sheet.specs.Rows.{coversOf, valuesOf}
-use Rattle.sheet.specs.Scan.{coversAlong, fitAlong}
-use Rattle.sheet.specs.Sheet.{isSome, rowsOf, sideIn, levelsIn}
+use Rattle.sheet_scan.specs.declared.check.Layout.{Layout}
+use Rattle.sheet_scan.specs.Parts.{LaidOut, FoundIn}
+use Rattle.sheet_text.specs.Rows.{coversOf, valuesOf}
+use Rattle.sheet_scan.specs.Scan.{coversAlong, fitAlong}
+use Rattle.sheet_text.specs.Sheet.{isSome, rowsOf, sideIn, levelsIn}
 use Rattle.places.proofs.Sides.{Passed, passed, side-small}
-use Rattle.sheet.proofs.Layouts.{blocks-count}
-use Rattle.sheet.proofs.Scans.{covers-said}
+use Rattle.sheet_text.proofs.Layouts.{blocks-count}
+use Rattle.sheet_scan.proofs.Scans.{covers-said}
 use Rattle.sheet.proofs.Readings.{no-text, no-side, no-depth, no-plane, no-coverings, no-order, no-sequence, no-number, no-range, was-read, same-plane, order-said, sequence-said, covers-are, plane-said, range-said}
 use borrow.Author.Needs.{needs}
 use Rattle.sheet.proofs.read.Statement.{statement}
