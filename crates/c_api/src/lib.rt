@@ -2,7 +2,7 @@
 // pointer and a count of its elements. The contracts are those of the entries below; include/tetrolet.h has the declarations.
 ghost use mathlib.Core.Path.{_≡_};
 ghost use Rattle.refusals.specs.Refusal.{afterCall};
-ghost use Rattle.sheet.specs.Sheet.{WriteAnswered};
+ghost use Rattle.sheet.specs.Write.{WriteAnswered};
 ghost use Rattle.sheet.specs.Read.{ReadAnswered};
 ghost use Rattle.sheet.specs.Usage.{UsageAnswered};
 ghost use Rattle.keeping.specs.Entries.{Kept, Cut};

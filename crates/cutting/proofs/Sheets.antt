@@ -31,7 +31,8 @@ use Rattle.quota.proofs.Accepted.{kept-accepted}
 use Rattle.coder.specs.Entries.{isSample, decomposeRefusal, Decomposed}
 use Rattle.coder.proofs.Gates.{small-samples}
 use Rattle.keeping.specs.Entries.{keepRefusal, Kept}
-use Rattle.sheet.specs.Sheet.{sheetText, writeRefusal, WriteAnswered}
+use Rattle.sheet_text.specs.Sheet.{sheetText, writeRefusal}
+use Rattle.sheet.specs.Write.{WriteAnswered}
 use Rattle.cutting.specs.Forms.{refusalText}
 use Rattle.cutting.specs.Cutter.{pictureText, Printed}
 use Rattle.cutting.specs.Rows.{heldTo}

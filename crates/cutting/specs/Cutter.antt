@@ -14,7 +14,7 @@ use Rattle.quota.specs.Quota.{keptOf, quotaLimit}
 use Rattle.coder.specs.Entries.{isSample}
 use Rattle.text.specs.Text.{Parsed, bad, got, sections, parse}
 use Rattle.text.specs.Lines.{cellAt}
-use Rattle.sheet.specs.Sheet.{sheetText}
+use Rattle.sheet_text.specs.Sheet.{sheetText}
 use Rattle.cutting.specs.Forms.{headerForm, samplesForm, refusalText}
 
 -- One check: the refusal with the number m where its condition holds, and else what the further checks give.

@@ -1,4 +1,4 @@
--- The answers of the entries, by what their checks find. Assumes nothing.
+-- The answers of the entry write, by what their checks find. Assumes nothing.
 use mathlib.Core.Path.{_≡_, refl, sym, ap, _∙_}
 use mathlib.Core.Bool.{Bool, true, false, not, _&&_}
 use mathlib.Core.List.{List, [], _∷_, _++_}
@@ -13,16 +13,14 @@ use Rattle.refusals.specs.declared.Counted.the-variants.{Count, Refused}
 use Rattle.refusals.specs.declared.Refusal.the-variants.{Side, Depth, Frame, Covering, Coefficient, Buffer}
 use Rattle.coverings.specs.Entry.{isNumber}
 use Rattle.text.specs.Write.{stamp}
+use Rattle.text.proofs.Stamp.{stamp-front}
 use Rattle.pyramid.specs.Plane.{allBlocks}
 use Rattle.pyramid.specs.Sides.{isSide, isDepth}
 use Rattle.pyramid.specs.Slices.{imageOf}
 use Rattle.pyramid.specs.Ranges.{inRange}
-use Rattle.sheet.specs.Sheet.{sheetText, writeRefusal, WriteAnswered}
+use Rattle.sheet_text.specs.Sheet.{sheetText}
+use Rattle.sheet.specs.Write.{WriteAnswered}
 
-pub stamp-front : (l out : List ℕ) → stamp 0 l out ≡ l ++ drop (length l) out
-stamp-front l out = let z : 0 + length l ≡ length l = omega arith in ap (λ (n : ℕ). l ++ drop n out) z
-
--- write
 module _ (n R : ℕ) (P : List ℤ) (cs old : List ℕ) where
   pub no-side : isSide n ≡ false → WriteAnswered n R P cs old old 1 0
   no-side a = record { number = rw a; count = rw a; slice = rw a }

@@ -1,12 +1,3 @@
 pub mod Answers
-pub mod Counts
-pub mod Each
-pub mod Laws
-pub mod Layouts
-pub mod Lines
-pub mod Pieces
+pub mod Listed
 pub mod Readings
-pub mod Rising
-pub mod Scans
-pub mod Spread
-pub mod Whole

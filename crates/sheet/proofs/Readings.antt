@@ -7,7 +7,7 @@ use native.Mathlib.Omega.{arith}
 use borrow.Author.Tests.{eq-eqb, ne-eqb}
 use lib.Dec.{eqb}
 use lib.IntN.{ℤ, pos}
-use lib.ListN.{length, getD, replicate, length-replicate}
+use lib.ListN.{length, getD, set, replicate, length-replicate}
 use Rattle.integers.specs.Lists.{every}
 use Rattle.refusals.specs.declared.Refusal.the-variants.{Side, Depth, Frame, Covering, Coefficient, Text, Sequence}
 use Rattle.coverings.specs.Entry.{isNumber}
@@ -18,21 +18,21 @@ use Rattle.pyramid.specs.Sides.{isSide, isDepth}
 use Rattle.pyramid.specs.Slices.{imageOf}
 use Rattle.pyramid.specs.Ranges.{fitsRange, inRange}
 use Rattle.sheet.specs.declared.Reading.the-variants.{Sheet, Refused}
-use Rattle.sheet.specs.Forms.{sheetForm}
+use Rattle.sheet_text.specs.Forms.{sheetForm}
 use Rattle.places.specs.Walk.{indexIn}
-use Rattle.sheet.specs.Rows.{spread, coversOf, valuesOf}
-use Rattle.sheet.specs.Scan.{valuesAlong, fitAlong, coversAlong}
-use Rattle.sheet.specs.Sheet.{isSome, listIn, rowsOf, sideIn, levelsIn, saidCoverings, saidValues, coveringsIn, planeIn}
-use Rattle.sheet.specs.Parts.{LaidOut}
-use Rattle.sheet.specs.declared.check.Layout.{Layout}
+use Rattle.sheet_text.specs.Rows.{spread, coversOf, valuesOf}
+use Rattle.sheet_scan.specs.Scan.{valueHere, linesPast, storedAlong, fitAlong, coversAlong}
+use Rattle.sheet_text.specs.Sheet.{isSome, listIn, rowsOf, sideIn, levelsIn, saidCoverings, saidValues, coveringsIn, planeIn}
+use Rattle.sheet_scan.specs.Parts.{LaidOut}
+use Rattle.sheet_scan.specs.declared.check.Layout.{Layout}
 use Rattle.text.specs.Lines.{linesAt}
 use Rattle.text.proofs.Many.{four, five}
 use Rattle.sheet.specs.Read.{ReadAnswered}
-use Rattle.sheet.proofs.Each.{Each}
-use Rattle.sheet.proofs.Spread.{length-spread, values-spread, spread-values}
+use Rattle.sheet_text.proofs.Each.{Each}
+use Rattle.sheet_text.proofs.Spread.{length-spread, values-spread, spread-values}
 use Rattle.places.proofs.Sides.{Passed}
-use Rattle.sheet.proofs.Layouts.{indexes, inside, onto}
-use Rattle.sheet.proofs.Scans.{fit-plane, covers-said, along}
+use Rattle.sheet_text.proofs.Layouts.{indexes, inside, onto}
+use Rattle.sheet_scan.proofs.Scans.{valuesAlong, fit-plane, covers-said, along}
 
 abbrev zeros : ℕ → List ℤ
 zeros n = replicate (n * n) (pos 0)
@@ -49,16 +49,22 @@ taken n (suc R) q vs e =
     values-spread n (planePlaces (suc R) n n) vs (zeros n) (indexes R n n (q .fits))
     (subst (λ (m : ℕ). Each (λ p. indexIn n p < m) (planePlaces (suc R) n n)) (sym (length-replicate (n * n) (pos 0))) (inside R n n (q .fits))) e
 
+-- what is stored are the values along the places
+stored-is : (h : ℕ) (ps : List Place) (rs : List (List ℤ)) (old : List ℤ) → storedAlong h ps rs old ≡ spread h ps (valuesAlong ps rs) old
+unfolding storedAlong spread valuesAlong
+stored-is h [] rs old = refl
+stored-is h (p ∷ ps) rs old = stored-is h ps (linesPast p rs) (set old (indexIn h p) (valueHere p rs))
+
 -- what the plane held before does not matter
 pub same-plane : (n R : ℕ) → Passed n R → (rs : List (List ℤ)) (old : List ℤ) → length old ≡ n * n
-    → spread n (planePlaces R n n) (valuesAlong (planePlaces R n n) rs) old ≡ spread n (planePlaces R n n) (valuesAlong (planePlaces R n n) rs) (zeros n)
+    → storedAlong n (planePlaces R n n) rs old ≡ spread n (planePlaces R n n) (valuesAlong (planePlaces R n n) rs) (zeros n)
 same-plane n zero q rs old l = absurd (omega (arith, q .some-level))
 same-plane n (suc R) q rs old l =
     let ps = planePlaces (suc R) n n in
     let vs = valuesAlong ps rs in
     let Q = spread n ps vs (zeros n) in
     let w = length-spread n ps vs (zeros n) ∙ length-replicate (n * n) (pos 0) in
-    ap (λ x. spread n ps x old) (sym (taken n (suc R) q vs (along-length ps rs))) ∙ spread-values n ps Q old (l ∙ sym w) (λ k h. onto R n n (q .fits) k (omega arith))
+    stored-is n ps rs old ∙ ap (λ x. spread n ps x old) (sym (taken n (suc R) q vs (along-length ps rs))) ∙ spread-values n ps Q old (l ∙ sym w) (λ k h. onto R n n (q .fits) k (omega arith))
 
 pub range-is : (n R : ℕ) → Passed n R → (rs : List (List ℤ)) → inRange R n n (imageOf n (spread n (planePlaces R n n) (valuesAlong (planePlaces R n n) rs) (zeros n))) ≡ fitAlong R (planePlaces R n n) rs
 unfolding inRange

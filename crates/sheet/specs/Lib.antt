@@ -1,9 +1,3 @@
-pub mod Claims
-pub mod Forms
-pub mod Parts
 pub mod Read
-pub mod Rows
-pub mod Scan
-pub mod Sheet
 pub mod Usage
-pub mod Line
+pub mod Write

@@ -6,7 +6,7 @@ use lib.IntN.{ℤ}
 use Rattle.refusals.specs.Refusal.{numberOf, afterCall}
 use Rattle.sheet.specs.declared.Reading.{Reading}
 use Rattle.sheet.specs.declared.Reading.the-variants.{Sheet, Refused}
-use Rattle.sheet.specs.Sheet.{readRefusal, rowsOf, sideIn, levelsIn, planeIn, coveringsIn}
+use Rattle.sheet_text.specs.Sheet.{readRefusal, rowsOf, sideIn, levelsIn, planeIn, coveringsIn}
 
 -- The number of an answer, and its values, 0 where the call is refused.
 abbrev pub readingOf : Reading → ℕ

@@ -1,19 +1,12 @@
-// The texts of the store: the tetrolet sheet and the usage list. specs/Forms.antt has their lines of names, specs/Rows.antt what is written of coverings
-// and of a plane and what lines say, specs/Sheet.antt the entries' answers. Both laws, that what is written is read back and that what is read is
-// written again byte for byte, are `SheetLaws` of specs/Claims.antt, proved in proofs/Laws.antt.
-pub mod check;
-pub mod render;
-pub mod scan;
-pub mod tally;
-pub mod tiles;
-
+// The entries of the store: write and read a tetrolet sheet, and write a usage list. specs/Write.antt, Read.antt and Usage.antt say what they answer and
+// what they leave in the slices. The crates below have the texts (sheet_text, usage_list) and the passes (sheet_scan, sheet_render, usage_list).
 ghost use Rattle.refusals.specs.Refusal.{countedOf, countOf};
 ghost use Rattle.sheet.specs.Read.{readingOf, sideOf, levelsOf, ReadAnswered};
-ghost use Rattle.sheet.specs.Sheet.{WriteAnswered};
+ghost use Rattle.sheet.specs.Write.{WriteAnswered};
 ghost use Rattle.sheet.specs.Usage.{UsageAnswered};
-use check::Found;
 use refusals::Counted;
 use refusals::Refusal;
+use sheet_scan::check::Found;
 
 // Writes a tetrolet sheet, and gives its length. Two wrong answers that the contract rules out: refusal 10 for a buffer that is just long enough; and a
 // refusal after the first byte was stored.
@@ -47,11 +40,11 @@ pub fn write(
     if !places::checks::in_range(plane, n, r) {
         return Counted::Refused(Refusal::Coefficient);
     }
-    let width = render::sheet_width(n, r, plane, coverings);
+    let width = sheet_render::sheet_width(n, r, plane, coverings);
     if buffer.len() < width {
         return Counted::Refused(Refusal::Buffer);
     }
-    render::put_sheet(buffer, n, r, plane, coverings);
+    sheet_render::put_sheet(buffer, n, r, plane, coverings);
     Counted::Count(width)
 }
 
@@ -66,7 +59,7 @@ pub enum Reading {
 pub fn read(text: &[u8], plane: &mut [i64], coverings: &mut [u8]) -> Reading
     ensures { λ r. ⌜ ReadAnswered (now (text .entry)) (now (plane .entry)) (now (plane .exit)) (now (coverings .entry)) (now (coverings .exit)) (readingOf r) (sideOf r) (levelsOf r) ⌝ }
 {
-    let Found::At(l) = check::find_parts(text) else {
+    let Found::At(l) = sheet_scan::check::find_parts(text) else {
         return Reading::Refused(Refusal::Text);
     };
     let n = l.side;
@@ -88,20 +81,20 @@ pub fn read(text: &[u8], plane: &mut [i64], coverings: &mut [u8]) -> Reading
     }
     let b = l.blocks;
     let e = l.entries;
-    if !tiles::in_order(text, b, n, r) {
+    if !sheet_scan::tiles::in_order(text, b, n, r) {
         return Reading::Refused(Refusal::Sequence);
     }
-    if !scan::in_sequence(text, e, n, r) {
+    if !l.rising {
         return Reading::Refused(Refusal::Sequence);
     }
-    if !tiles::numbered(text, b, blocks) {
+    if !sheet_scan::tiles::numbered(text, b, blocks) {
         return Reading::Refused(Refusal::Covering);
     }
-    if !scan::in_ranges(text, e, n, r) {
+    if !l.fitting {
         return Reading::Refused(Refusal::Coefficient);
     }
-    tiles::store_covers(coverings, text, b);
-    scan::store_values(plane, text, e, n, r);
+    sheet_scan::tiles::store_covers(coverings, text, b);
+    sheet_scan::scan::store_values(plane, text, e, n, r);
     Reading::Sheet { side, levels }
 }
 
@@ -117,11 +110,11 @@ pub fn usage(coverings: &[u8], buffer: &mut [u8]) -> Counted
         return Counted::Refused(Refusal::Covering);
     }
     // The line of names has 12 bytes.
-    let length = 12 + tally::counts_width(coverings);
+    let length = 12 + usage_list::counts_width(coverings);
     if buffer.len() < length {
         return Counted::Refused(Refusal::Buffer);
     }
     let p = text::write::put_bytes(buffer, 0, b"cover count\n");
-    tally::put_counts(buffer, p, coverings);
+    usage_list::put_counts(buffer, p, coverings);
     Counted::Count(length)
 }

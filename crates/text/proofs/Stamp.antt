@@ -107,6 +107,10 @@ pub cell-length : (v c : ℕ) → length (cellText v c) ≡ length (digits v) + 
 cell-length v c = length-append (digits v) (c ∷ [])
 
 -- the lines of values are such texts
+pub two-row : (a b : ℕ) → rowText (pos a ∷ pos b ∷ []) ≡ cellText a 32 ++ cellText b 10
+unfolding rowText valueText after
+two-row a b = sym (append-snoc (digits a) 32 (cellText b 10))
+
 pub four-row : (a b c d : ℕ) → rowText (pos a ∷ pos b ∷ pos c ∷ pos d ∷ []) ≡ fourText a b c d 10
 unfolding rowText valueText after
 four-row a b c d =
@@ -187,3 +191,7 @@ pub value-length : (v : ℤ) → length (valueText v) ≤ 11
 unfolding valueText
 value-length (pos n) = omega (arith, width-le 10 n)
 value-length (negsuc n) = omega (arith, width-le 10 (suc n))
+
+-- written from the front
+pub stamp-front : (l out : List ℕ) → stamp 0 l out ≡ l ++ drop (length l) out
+stamp-front l out = let z : 0 + length l ≡ length l = omega arith in ap (λ (n : ℕ). l ++ drop n out) z

@@ -1,5 +1,5 @@
 -- `c_api::tetrolet_write` meets its contract: that of the entry below, with its values told through references. Assumes nothing.
-use Rattle.sheet.specs.Sheet.{WriteAnswered}
+use Rattle.sheet.specs.Write.{WriteAnswered}
 use Rattle.c_api.proofs.Told.{counted, uncounted}
 use borrow.Author.Needs.{needs}
 use Rattle.c_api.proofs.tetrolet_write.Statement.{statement}

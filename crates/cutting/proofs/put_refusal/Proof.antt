@@ -5,8 +5,7 @@ use native.Mathlib.Omega.{arith}
 use lib.ListN.{length}
 use Rattle.text.specs.Bytes.{bytes}
 use Rattle.text.specs.Write.{cellText}
-use Rattle.text.proofs.Stamp.{Put, put-more, put-length, cell-length, width-le}
-use Rattle.sheet.proofs.Answers.{stamp-front}
+use Rattle.text.proofs.Stamp.{Put, put-more, put-length, cell-length, width-le, stamp-front}
 use Rattle.cutting.specs.Forms.{refusalText}
 use borrow.Author.Needs.{needs}
 use Rattle.cutting.proofs.put_refusal.Statement.{statement}

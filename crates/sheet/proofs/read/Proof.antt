@@ -15,14 +15,14 @@ use Rattle.text.proofs.Many.{four, five}
 use Rattle.pyramid.specs.Plane.{allBlocks}
 use Rattle.pyramid.specs.Places.{planePlaces, blockPlaces}
 use Rattle.pyramid.specs.Sides.{isSide, isDepth}
-use Rattle.sheet.specs.declared.check.Layout.{Layout}
-use Rattle.sheet.specs.Parts.{LaidOut, FoundIn}
-use Rattle.sheet.specs.Rows.{coversOf, valuesOf}
-use Rattle.sheet.specs.Scan.{coversAlong, fitAlong}
-use Rattle.sheet.specs.Sheet.{isSome, rowsOf, sideIn, levelsIn}
+use Rattle.sheet_scan.specs.declared.check.Layout.{Layout}
+use Rattle.sheet_scan.specs.Parts.{LaidOut, FoundIn}
+use Rattle.sheet_text.specs.Rows.{coversOf, valuesOf}
+use Rattle.sheet_scan.specs.Scan.{coversAlong, fitAlong}
+use Rattle.sheet_text.specs.Sheet.{isSome, rowsOf, sideIn, levelsIn}
 use Rattle.places.proofs.Sides.{Passed, passed, side-small}
-use Rattle.sheet.proofs.Layouts.{blocks-count}
-use Rattle.sheet.proofs.Scans.{covers-said}
+use Rattle.sheet_text.proofs.Layouts.{blocks-count}
+use Rattle.sheet_scan.proofs.Scans.{covers-said}
 use Rattle.sheet.proofs.Readings.{no-text, no-side, no-depth, no-plane, no-coverings, no-order, no-sequence, no-number, no-range, was-read, same-plane, order-said, sequence-said, covers-are, plane-said, range-said}
 use borrow.Author.Needs.{needs}
 use Rattle.sheet.proofs.read.Statement.{statement}
@@ -54,13 +54,13 @@ order : (e : tie.Else5) → let k = (e .before .before .before .before .before .
 order e = sym (e .before .in-order .ensures) ∙ not-false _ (e .if5 .left)
 
 sequence : (e : tie.Else6) → let k = (e .before .before .before .before .before .before .before .before .before .before .before) in isSome (valuesOf (planePlaces (lay k .levels) (lay k .side) (lay k .side)) (linesAt five (txt k) (lay k .entries))) ≡ true
-sequence e = sym (e .before .in-sequence .ensures) ∙ not-false _ (e .if6 .left)
+sequence e = sym (laid (e .before .before .before .before .before .before .before .before .before .before .before) .surveyed .rising (side (e .before .before .before .before .before .before .before .before .before)) (depth (e .before .before .before .before .before .before .before))) ∙ not-false _ (e .if6 .left)
 
 numbers : (e : tie.Else7) → let k = (e .before .before .before .before .before .before .before .before .before .before .before .before .before) in every isNumber (coversAlong (linesAt four (txt k) (lay k .blocks))) ≡ true
 numbers e = sym (e .before .numbered .ensures) ∙ not-false _ (e .if7 .left)
 
 ranges : (e : tie.Else8) → let k = (e .before .before .before .before .before .before .before .before .before .before .before .before .before .before .before) in fitAlong (lay k .levels) (planePlaces (lay k .levels) (lay k .side) (lay k .side)) (linesAt five (txt k) (lay k .entries)) ≡ true
-ranges e = sym (e .before .in-ranges .ensures) ∙ not-false _ (e .if8 .left)
+ranges e = sym (laid (e .before .before .before .before .before .before .before .before .before .before .before .before .before .before .before) .surveyed .fitting (side (e .before .before .before .before .before .before .before .before .before .before .before .before .before)) (depth (e .before .before .before .before .before .before .before .before .before .before .before))) ∙ not-false _ (e .if8 .left)
 
 count : (e : tie.Else5) → let k = (e .before .before .before .before .before .before .before .before .before) in length (linesAt four (txt k) (lay k .blocks)) ≡ allBlocks (lay k .levels) (lay k .side) (lay k .side)
 count e = let k = (e .before .before .before .before .before .before .before .before .before) in let l = lay k in covers-said (blockPlaces (l .levels) (l .side) (l .side)) (linesAt four (txt k) (l .blocks)) (order e) .1 ∙ blocks-count 0 (l .levels) (l .side) (l .side)
@@ -165,9 +165,6 @@ returns-6 c =
     (blocks (c .before .before) ∙ sym (λ i. allBlocks (L .levels i) (L .side i) (L .side i)))
     (order-said t l L ∙ sym (c .before .in-order .ensures) ∙ not-true _ (c .if5 .taken))
 
-in-sequence-requires : tie.Need-in-sequence-requires
-in-sequence-requires c κs = (side (c .before .before .before .before .before .before .before), depth (c .before .before .before .before .before))
-
 returns-7 : tie.Need-returns-7
 returns-7 c =
     let k = (c .before .before .before .before .before .before .before .before .before .before .before) in
@@ -182,7 +179,7 @@ returns-7 c =
     (c .before .before .before .before .before .before .if3 .left ∙ sym (λ i. L .side i * L .side i))
     (blocks (c .before .before .before .before) ∙ sym (λ i. allBlocks (L .levels i) (L .side i) (L .side i)))
     (order-said t l L ∙ order (c .before .before))
-    (sequence-said t l L ∙ sym (c .before .in-sequence .ensures) ∙ not-true _ (c .if6 .taken))
+    (sequence-said t l L ∙ sym (L .surveyed .rising (side (c .before .before .before .before .before .before .before .before .before)) (depth (c .before .before .before .before .before .before .before))) ∙ not-true _ (c .if6 .taken))
 
 numbered-requires : tie.Need-numbered-requires
 numbered-requires c κs = count (c .before .before) ∙ sym (c .before .before .before .before .before .count-blocks .ensures .0)
@@ -204,9 +201,6 @@ returns-8 c =
     (sequence-said t l L ∙ sequence (c .before .before))
     (ap (every isNumber) (covers-are t l L (order (c .before .before .before .before))) ∙ sym (c .before .numbered .ensures) ∙ not-true _ (c .if7 .taken))
 
-in-ranges-requires : tie.Need-in-ranges-requires
-in-ranges-requires c κs = (side (c .before .before .before .before .before .before .before .before .before .before .before), depth (c .before .before .before .before .before .before .before .before .before))
-
 returns-9 : tie.Need-returns-9
 returns-9 c =
     let k = (c .before .before .before .before .before .before .before .before .before .before .before .before .before .before .before) in
@@ -223,7 +217,7 @@ returns-9 c =
     (order-said t l L ∙ order (c .before .before .before .before .before .before))
     (sequence-said t l L ∙ sequence (c .before .before .before .before))
     (ap (every isNumber) (covers-are t l L (order (c .before .before .before .before .before .before))) ∙ numbers (c .before .before))
-    (range-said t l L (good (c .before .before .before .before .before .before .before .before .before .before .before)) (sequence (c .before .before .before .before)) ∙ sym (c .before .in-ranges .ensures) ∙ not-true _ (c .if8 .taken))
+    (range-said t l L (good (c .before .before .before .before .before .before .before .before .before .before .before)) (sequence (c .before .before .before .before)) ∙ sym (L .surveyed .fitting (side (c .before .before .before .before .before .before .before .before .before .before .before .before .before)) (depth (c .before .before .before .before .before .before .before .before .before .before .before))) ∙ not-true _ (c .if8 .taken))
 
 store-covers-requires : tie.Need-store-covers-requires
 store-covers-requires c κs = (count (c .before .before .before .before .before .before .before) ∙ sym (blocks (c .before .before .before .before .before .before .before .before .before)), numbers (c .before .before .before))
@@ -279,11 +273,9 @@ read-spec =
     returns-5
     in-order-requires
     returns-6
-    in-sequence-requires
     returns-7
     numbered-requires
     returns-8
-    in-ranges-requires
     returns-9
     store-covers-requires
     store-values-requires

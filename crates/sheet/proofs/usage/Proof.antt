@@ -12,8 +12,8 @@ use Rattle.coverings.specs.Entry.{isNumber}
 use Rattle.text.specs.Bytes.{bytes}
 use Rattle.text.specs.Write.{stamp}
 use Rattle.text.proofs.Stamp.{Put, put-more, put-length}
-use Rattle.sheet.specs.Usage.{usageText, risingText}
-use Rattle.sheet.proofs.Counts.{Lines, usage-is, too-many, no-number, no-room, listed}
+use Rattle.usage_list.specs.Usage.{usageText, risingText}
+use Rattle.sheet.proofs.Listed.{Lines, usage-is, too-many, no-number, no-room, listed}
 use borrow.Author.Needs.{needs}
 use Rattle.sheet.proofs.usage.Statement.{statement}
 use Rattle.sheet.proofs.usage.Tie as tie

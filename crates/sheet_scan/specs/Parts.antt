@@ -1,0 +1,35 @@
+-- Where the parts of a sheet's text stand. Assumes nothing.
+use mathlib.Core.Path.{_≡_}
+use mathlib.Core.Bool.{Bool, true, false}
+use mathlib.Core.List.{List, []}
+use Prim.Native.Nat.{ℕ}
+use lib.ListN.{getD}
+use Rattle.text.specs.Text.{parse}
+use Rattle.text.specs.Lines.{linesAt}
+use Rattle.text.proofs.Many.{four, five}
+use Rattle.sheet_scan.specs.declared.check.Layout.{Layout}
+use Rattle.sheet_scan.specs.declared.check.Found.{Found}
+use Rattle.sheet_scan.specs.declared.check.Found.the-variants.{At, Bad}
+use Rattle.sheet_text.specs.Forms.{sheetForm}
+use Rattle.pyramid.specs.Places.{planePlaces}
+use Rattle.pyramid.specs.Sides.{isSide, isDepth}
+use Rattle.sheet_text.specs.Rows.{valuesOf}
+use Rattle.sheet_scan.specs.Scan.{fitAlong}
+use Rattle.sheet_text.specs.Sheet.{isSome, rowsOf, sideIn, levelsIn}
+
+-- What is found of the lines of entries, where the side n and the levels R are good.
+pub record Surveyed (t : List ℕ) (at n R : ℕ) (r f : Bool) : Type 0 where
+  pub rising : isSide n ≡ true → isDepth R n n ≡ true → r ≡ isSome (valuesOf (planePlaces R n n) (linesAt five t at))
+  pub fitting : isSide n ≡ true → isDepth R n n ≡ true → f ≡ fitAlong R (planePlaces R n n) (linesAt five t at)
+
+pub record LaidOut (t : List ℕ) (l : Layout) : Type 0 where
+  pub keeps : isSome (parse sheetForm t) ≡ true
+  pub side : sideIn (rowsOf t) ≡ l .side
+  pub levels : levelsIn (rowsOf t) ≡ l .levels
+  pub blocks : getD (rowsOf t) 1 [] ≡ linesAt four t (l .blocks)
+  pub entries : getD (rowsOf t) 2 [] ≡ linesAt five t (l .entries)
+  pub surveyed : Surveyed t (l .entries) (l .side) (l .levels) (l .rising) (l .fitting)
+
+abbrev pub FoundIn : List ℕ → Found → Type 0
+FoundIn t Bad = isSome (parse sheetForm t) ≡ false
+FoundIn t (At l) = LaidOut t l

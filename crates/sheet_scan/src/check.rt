@@ -1,0 +1,87 @@
+// Where the parts of a sheet's text stand: refusal 9.
+ghost use mathlib.Core.Path.{_≡_};
+ghost use Prim.Native.Nat.{_≤_};
+ghost use lib.ListN.{length};
+ghost use Rattle.text.specs.Lines.{fivesAt};
+ghost use Rattle.sheet_text.specs.Claims.{SheetLaws};
+ghost use Rattle.sheet_scan.specs.Parts.{Surveyed, FoundIn};
+use crate::scan::Survey;
+use text::lines::LineOfTwo;
+use text::names::Skip;
+
+// What a sheet says of its side and levels, and where the lines of its blocks and of its entries begin.
+pub struct Layout {
+    pub side: u32,
+    pub levels: u32,
+    pub blocks: usize,
+    pub entries: usize,
+    // Of the entries' lines, where the side and the levels are good: whether they stand at places of the plane, rising in plane order, with values that
+    // are not 0; and whether these are in their ranges.
+    pub rising: bool,
+    pub fitting: bool,
+}
+
+pub enum Found {
+    At(Layout),
+    // It breaks the line rules.
+    Bad,
+}
+
+// Passes the lines of the entries, in one pass where the side and the levels are good.
+fn survey_entries(s: &[u8], at: usize, side: u32, levels: u32) -> Survey
+    requires { ⌜ at ≤ length (now s) ⌝ }
+    ensures { λ r. ⌜ r .past ≡ fivesAt (now (s .entry)) at ⌝ }
+    ensures { λ r. ⌜ Surveyed (now (s .entry)) at side levels (r .rising) (r .fitting) ⌝ }
+{
+    let n = side as usize;
+    if !places::checks::is_side(n) {
+        let past = text::lines::pass_fives(s, at);
+        return Survey {
+            past,
+            rising: false,
+            fitting: false,
+        };
+    }
+    if !places::checks::is_depth(levels as usize, n) {
+        let past = text::lines::pass_fives(s, at);
+        return Survey {
+            past,
+            rising: false,
+            fitting: false,
+        };
+    }
+    crate::scan::look_along(s, at, side, levels)
+}
+
+// The parts of a text that keeps the line rules of a tetrolet sheet. (It states the laws of sheets besides, so that they are part of the verdict.)
+pub fn find_parts(s: &[u8]) -> Found
+    ensures { λ r. ⌜ FoundIn (now (s .entry)) r ⌝ }
+    ensures { λ _. ⌜ SheetLaws ⌝ }
+{
+    let Skip::To(p) = text::names::skip_names(s, 0, b"side levels\n") else {
+        return Found::Bad;
+    };
+    let LineOfTwo::Of(h) = text::lines::read_two(s, p) else {
+        return Found::Bad;
+    };
+    let q = h.next;
+    let Skip::To(t) = text::names::skip_names(s, q, b"level row col cover\n") else {
+        return Found::Bad;
+    };
+    let u = text::lines::pass_fours(s, t);
+    let Skip::To(v) = text::names::skip_names(s, u, b"level band row col value\n") else {
+        return Found::Bad;
+    };
+    let w = survey_entries(s, v, h.first, h.second);
+    if w.past != s.len() {
+        return Found::Bad;
+    }
+    Found::At(Layout {
+        side: h.first,
+        levels: h.second,
+        blocks: t,
+        entries: v,
+        rising: w.rising,
+        fitting: w.fitting,
+    })
+}

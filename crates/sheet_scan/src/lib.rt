@@ -1,0 +1,5 @@
+// The passes over the text of a sheet that is read: where its parts stand (check), the lines of its entries (scan) and those of its blocks (tiles).
+// Refusals are the business of the crate sheet above.
+pub mod check;
+pub mod scan;
+pub mod tiles;

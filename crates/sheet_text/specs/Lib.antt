@@ -1,0 +1,4 @@
+pub mod Claims
+pub mod Forms
+pub mod Rows
+pub mod Sheet

@@ -1,0 +1,110 @@
+-- The text of a sheet, what a text says, and what the entries write and read refuse. Definitions are over a height h and a width w; the entries pass
+-- the side twice. Assumes nothing.
+use mathlib.Core.Bool.{Bool, true, false, not, _&&_}
+use mathlib.Core.List.{List, [], _∷_, _++_}
+use mathlib.Core.Option.{Option, none, some}
+use Prim.Native.Nat.{ℕ, _*_}
+use lib.Dec.{eqb, ltb}
+use lib.IntN.{ℤ, pos}
+use lib.ListN.{length, getD, replicate}
+use Rattle.integers.specs.Lists.{every}
+use Rattle.refusals.specs.Refusal.{refuseIf}
+use Rattle.coverings.specs.Entry.{isNumber}
+use Rattle.pyramid.specs.Sides.{isSide, isDepth, isPlane, isCoverings}
+use Rattle.pyramid.specs.Slices.{imageOf}
+use Rattle.pyramid.specs.Ranges.{inRange}
+use Rattle.pyramid.specs.Places.{planePlaces, blockPlaces}
+use Rattle.text.specs.Text.{rowsText, render, parse}
+use Rattle.text.specs.Bytes.{bytes}
+use Rattle.text.specs.Write.{cellText}
+use Rattle.text.specs.Lines.{cellAt}
+use Rattle.sheet_text.specs.Forms.{sheetForm}
+use Rattle.sheet_text.specs.Rows.{blockRows, entryRows, coversOf, valuesOf, spread}
+
+-- ---- write
+
+-- The lines under the three lines of names, for an h by w plane of R levels; `head` is the one line under `side levels`.
+abbrev pub sheetRows : List ℤ → ℕ → ℕ → ℕ → List ℤ → List ℕ → List (List (List ℤ))
+sheetRows head R h w plane coverings =
+    (head ∷ []) ∷ blockRows (blockPlaces R h w) coverings ∷ entryRows (imageOf h plane) (planePlaces R h w) ∷ []
+
+-- The bytes of the lines of blocks, and of the lines of entries.
+abbrev pub blocksText : ℕ → ℕ → ℕ → List ℕ → List ℕ
+blocksText R h w coverings = rowsText (blockRows (blockPlaces R h w) coverings)
+
+abbrev pub entriesText : ℕ → ℕ → ℕ → List ℤ → List ℕ
+entriesText R h w plane = rowsText (entryRows (imageOf h plane) (planePlaces R h w))
+
+abbrev pub headOf : ℕ → ℕ → List ℤ
+headOf side levels = pos side ∷ pos levels ∷ []
+
+-- The text of a sheet in its three parts, each a line of names and the lines under it.
+abbrev pub headPart : ℕ → ℕ → List ℕ
+headPart side levels = bytes "side levels\n" ++ (cellText side 32 ++ cellText levels 10)
+
+abbrev pub blockPart : ℕ → ℕ → ℕ → List ℕ → List ℕ
+blockPart R h w coverings = bytes "level row col cover\n" ++ blocksText R h w coverings
+
+abbrev pub entryPart : ℕ → ℕ → ℕ → List ℤ → List ℕ
+entryPart R h w plane = bytes "level band row col value\n" ++ entriesText R h w plane
+
+-- The text of a sheet.
+abbrev pub sheetText : ℕ → ℕ → List ℤ → List ℕ → List ℕ
+sheetText side levels plane coverings = render sheetForm (sheetRows (headOf side levels) levels side side plane coverings)
+
+-- Document 01: "write 1 2 3 5 6 10".
+abbrev pub writeRefusal : ℕ → ℕ → List ℤ → List ℕ → List ℕ → ℕ
+writeRefusal side levels plane coverings buffer =
+    refuseIf (not (isSide side)) 1
+    (refuseIf (not (isDepth levels side side)) 2
+    (refuseIf (not (isPlane side side plane && isCoverings levels side side coverings)) 3
+    (refuseIf (not (every isNumber coverings)) 5
+    (refuseIf (not (inRange levels side side (imageOf side plane))) 6
+    (refuseIf (ltb (length buffer) (length (sheetText side levels plane coverings))) 10 0)))))
+
+-- ---- read
+
+abbrev pub isSome : {A : Type 0} → Option A → Bool
+isSome none = false
+isSome (some a) = true
+
+abbrev pub listIn : {A : Type 0} → Option (List A) → List A
+listIn none = []
+listIn (some l) = l
+
+-- The lines of values of a text under each line of names; the values of the line under `side levels`.
+unfoldable pub rowsOf : List ℕ → List (List (List ℤ))
+rowsOf t = listIn (parse sheetForm t)
+
+abbrev pub sideIn : List (List (List ℤ)) → ℕ
+sideIn rows = cellAt (getD (getD rows 0 []) 0 []) 0
+
+abbrev pub levelsIn : List (List (List ℤ)) → ℕ
+levelsIn rows = cellAt (getD (getD rows 0 []) 0 []) 1
+
+-- The coverings and the values along plane order that the lines say, where they say any.
+abbrev pub saidCoverings : List (List (List ℤ)) → Option (List ℕ)
+saidCoverings rows = coversOf (blockPlaces (levelsIn rows) (sideIn rows) (sideIn rows)) (getD rows 1 [])
+
+abbrev pub saidValues : List (List (List ℤ)) → Option (List ℤ)
+saidValues rows = valuesOf (planePlaces (levelsIn rows) (sideIn rows) (sideIn rows)) (getD rows 2 [])
+
+abbrev pub coveringsIn : List (List (List ℤ)) → List ℕ
+coveringsIn rows = listIn (saidCoverings rows)
+
+-- Document 01: "puts 0 at each plane place without a line".
+abbrev pub planeIn : List (List (List ℤ)) → List ℤ
+planeIn rows = spread (sideIn rows) (planePlaces (levelsIn rows) (sideIn rows) (sideIn rows)) (listIn (saidValues rows)) (replicate (sideIn rows * sideIn rows) (pos 0))
+
+-- Document 01: "read 9 1 2 3 11 5 6", for a plane and coverings that are lent; first what follows 9.
+abbrev pub judge : List (List (List ℤ)) → List ℤ → List ℕ → ℕ
+judge rows plane coverings =
+    refuseIf (not (isSide (sideIn rows))) 1
+    (refuseIf (not (isDepth (levelsIn rows) (sideIn rows) (sideIn rows))) 2
+    (refuseIf (not (isPlane (sideIn rows) (sideIn rows) plane && isCoverings (levelsIn rows) (sideIn rows) (sideIn rows) coverings)) 3
+    (refuseIf (not (isSome (saidCoverings rows) && isSome (saidValues rows))) 11
+    (refuseIf (not (every isNumber (coveringsIn rows))) 5
+    (refuseIf (not (inRange (levelsIn rows) (sideIn rows) (sideIn rows) (imageOf (sideIn rows) (planeIn rows)))) 6 0)))))
+
+abbrev pub readRefusal : List ℕ → List ℤ → List ℕ → ℕ
+readRefusal t plane coverings = refuseIf (not (isSome (parse sheetForm t))) 9 (judge (rowsOf t) plane coverings)
