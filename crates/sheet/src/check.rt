@@ -24,21 +24,20 @@ pub fn find_parts(s: &[u8]) -> Found
     ensures { λ r. ⌜ FoundIn (now (s .entry)) r ⌝ }
     ensures { λ _. ⌜ SheetLaws ⌝ }
 {
-    let Skip::To(p) = text::names::skip_names(s, 0, b"side levels\n") else {
+    let Skip::To(p) = reader::names_at(s, 0, b"side levels\n") else {
         return Found::Bad;
     };
-    let LineOfTwo::Of(h) = text::lines::read_two(s, p) else {
+    let LineOfTwo::Of(h) = reader::two_at(s, p) else {
         return Found::Bad;
     };
     let q = h.next;
-    let Skip::To(t) = text::names::skip_names(s, q, b"level row col cover\n") else {
+    let Skip::To(t) = reader::names_at(s, q, b"level row col cover\n") else {
         return Found::Bad;
     };
-    let u = text::lines::pass_fours(s, t);
-    let Skip::To(v) = text::names::skip_names(s, u, b"level band row col value\n") else {
+    let Skip::To(v) = reader::fours_then_names(s, t, b"level band row col value\n") else {
         return Found::Bad;
     };
-    let w = text::lines::pass_fives(s, v);
+    let w = reader::fives_end(s, v);
     if w != s.len() {
         return Found::Bad;
     }
