@@ -35,7 +35,7 @@ fn survey_entries(s: &[u8], at: usize, side: u32, levels: u32) -> Survey
 {
     let n = side as usize;
     if !places::checks::is_side(n) {
-        let past = text::lines::pass_fives(s, at);
+        let past = reader::fives_end(s, at);
         return Survey {
             past,
             rising: false,
@@ -43,7 +43,7 @@ fn survey_entries(s: &[u8], at: usize, side: u32, levels: u32) -> Survey
         };
     }
     if !places::checks::is_depth(levels as usize, n) {
-        let past = text::lines::pass_fives(s, at);
+        let past = reader::fives_end(s, at);
         return Survey {
             past,
             rising: false,
@@ -58,18 +58,17 @@ pub fn find_parts(s: &[u8]) -> Found
     ensures { λ r. ⌜ FoundIn (now (s .entry)) r ⌝ }
     ensures { λ _. ⌜ SheetLaws ⌝ }
 {
-    let Skip::To(p) = text::names::skip_names(s, 0, b"side levels\n") else {
+    let Skip::To(p) = reader::names_at(s, 0, b"side levels\n") else {
         return Found::Bad;
     };
-    let LineOfTwo::Of(h) = text::lines::read_two(s, p) else {
+    let LineOfTwo::Of(h) = reader::two_at(s, p) else {
         return Found::Bad;
     };
     let q = h.next;
-    let Skip::To(t) = text::names::skip_names(s, q, b"level row col cover\n") else {
+    let Skip::To(t) = reader::names_at(s, q, b"level row col cover\n") else {
         return Found::Bad;
     };
-    let u = text::lines::pass_fours(s, t);
-    let Skip::To(v) = text::names::skip_names(s, u, b"level band row col value\n") else {
+    let Skip::To(v) = reader::fours_then_names(s, t, b"level band row col value\n") else {
         return Found::Bad;
     };
     let w = survey_entries(s, v, h.first, h.second);

@@ -8,6 +8,7 @@ use borrow.Author.Tests.{ne-eqb, eq-eqb}
 use lib.Dec.{eqb}
 use lib.ListN.{length}
 use Rattle.text.specs.Text.{parse}
+use Rattle.text.specs.Lines.{foursAt}
 use Rattle.sheet_text.specs.Forms.{sheetForm}
 use Rattle.sheet_text.specs.Sheet.{isSome}
 use Rattle.text.proofs.Many.{TwoLine, two-line, two, four, five, SkipRead, RowRead, RowsRead, skip-at, skip-none, two-at, two-none, rows-at}
@@ -16,10 +17,10 @@ use Rattle.sheet_scan.proofs.Whole.{N1, N2, N3, no-1, no-2, no-3, no-4,
 use Rattle.sheet_scan.proofs.check.find_parts.Statement.{statement}
 use Rattle.sheet_scan.proofs.check.find_parts.Tie as tie
 
-slice-aggregate-skip-names : tie.Need-slice-aggregate-skip-names
-slice-aggregate-skip-names c = search needs
+slice-aggregate-names-at : tie.Need-slice-aggregate-names-at
+slice-aggregate-names-at c = search needs
 
--- what was read so far: after the first names, the line of two, the second names, the block lines and the third names
+-- what was read so far: after the first names, the line of two, the second names, and the block lines with the third names
 abbrev K1 : Type 0
 K1 = tie.After-known-told
 
@@ -27,34 +28,44 @@ abbrev S : K1 → List ℕ
 S k = k .before .before .before .before .before .before .args .s .now
 
 s1 : (k : K1) → SkipRead N1 (S k) 0 (k .before .p .given .0 .0)
-s1 k = skip-at N1 (S k) 0 (k .before .p .given .0 .0) (sym (k .before .before .before .skip-names .ensures) ∙ k .before .p .given .1)
+s1 k = skip-at N1 (S k) 0 (k .before .p .given .0 .0) (sym (k .before .before .before .names-at .ensures) ∙ k .before .p .given .1)
 
 abbrev K2 : Type 0
 K2 = tie.After-known-told2
 
-s2 : (k : K2) → RowRead two (S (k .before .before .before .before)) (k .before .before .before .before .before .p .given .0 .0) (k .before .h .given .0 .0 .next)
-s2 k = two-at (S (k .before .before .before .before)) (k .before .before .before .before .before .p .given .0 .0) (k .before .h .given .0 .0) (sym (k .before .before .before .read-two .ensures) ∙ k .before .h .given .1)
+abbrev to-1 : K2 → K1
+to-1 k = k .before .before .before .before
+
+s2 : (k : K2) → RowRead two (S (to-1 k)) (to-1 k .before .p .given .0 .0) (k .before .h .given .0 .0 .next)
+s2 k = two-at (S (to-1 k)) (to-1 k .before .p .given .0 .0) (k .before .h .given .0 .0) (sym (k .before .before .before .two-at .ensures) ∙ k .before .h .given .1)
 
 abbrev K3 : Type 0
 K3 = tie.After-known-told3
 
-s3 : (k : K3) → SkipRead N2 (S (k .before .before .before .before .before .before .before .before .before)) (k .before .before .before .before .before .before .h .given .0 .0 .next) (k .before .t .given .0 .0)
-s3 k = skip-at N2 (S (k .before .before .before .before .before .before .before .before .before)) (k .before .before .before .before .before .before .h .given .0 .0 .next) (k .before .t .given .0 .0) (sym (k .before .before .before .skip-names2 .ensures) ∙ k .before .t .given .1)
+abbrev to-2 : K3 → K2
+to-2 k = k .before .before .before .before .before
+
+s3 : (k : K3) → SkipRead N2 (S (to-1 (to-2 k))) (to-2 k .before .h .given .0 .0 .next) (k .before .t .given .0 .0)
+s3 k = skip-at N2 (S (to-1 (to-2 k))) (to-2 k .before .h .given .0 .0 .next) (k .before .t .given .0 .0) (sym (k .before .before .before .names-at2 .ensures) ∙ k .before .t .given .1)
+
+-- the place past the block lines
+abbrev past : K3 → ℕ
+past k = foursAt (S (to-1 (to-2 k))) (k .before .t .given .0 .0)
+
+s4 : (k : K3) → RowsRead four (S (to-1 (to-2 k))) (k .before .t .given .0 .0) (past k)
+s4 k = rows-at four (S (to-1 (to-2 k))) (k .before .t .given .0 .0) (past k) refl
 
 abbrev K4 : Type 0
-K4 = tie.After-pass-fours
+K4 = tie.After-known-told4
 
-s4 : (k : K4) → RowsRead four (S (k .before .before .before .before .before .before .before .before .before .before)) (k .before .before .t .given .0 .0) (k .pass-fours .result)
-s4 k = rows-at four (S (k .before .before .before .before .before .before .before .before .before .before)) (k .before .before .t .given .0 .0) (k .pass-fours .result) (k .pass-fours .ensures)
+abbrev to-3 : K4 → K3
+to-3 k = k .before .before .before .before .before
 
-abbrev K5 : Type 0
-K5 = tie.After-known-told4
+s5 : (k : K4) → SkipRead N3 (S (to-1 (to-2 (to-3 k)))) (past (to-3 k)) (k .before .v .given .0 .0)
+s5 k = skip-at N3 (S (to-1 (to-2 (to-3 k)))) (past (to-3 k)) (k .before .v .given .0 .0) (sym (k .before .before .before .fours-then-names .ensures) ∙ k .before .v .given .1)
 
-s5 : (k : K5) → SkipRead N3 (S (k .before .before .before .before .before .before .before .before .before .before .before .before .before .before .before)) (k .before .before .before .before .before .pass-fours .result) (k .before .v .given .0 .0)
-s5 k = skip-at N3 (S (k .before .before .before .before .before .before .before .before .before .before .before .before .before .before .before)) (k .before .before .before .before .before .pass-fours .result) (k .before .v .given .0 .0) (sym (k .before .before .before .skip-names3 .ensures) ∙ k .before .v .given .1)
-
-skip-names-requires : tie.Need-skip-names-requires
-skip-names-requires c κs = search needs
+names-at-requires : tie.Need-names-at-requires
+names-at-requires c κs = search needs
 
 enum-known-p : tie.Need-enum-known-p
 enum-known-p c = search needs
@@ -63,10 +74,10 @@ enum-told : tie.Need-enum-told
 enum-told c = search needs
 
 returns : tie.Need-returns
-returns c = (let s = c .before .before .before .before .before .args .s .now in sym (no-1 s (skip-none N1 s 0 (sym (c .before .before .skip-names .ensures) ∙ c .enum-told .given .1))), laws)
+returns c = (let s = c .before .before .before .before .before .args .s .now in sym (no-1 s (skip-none N1 s 0 (sym (c .before .before .names-at .ensures) ∙ c .enum-told .given .1))), laws)
 
-read-two-requires : tie.Need-read-two-requires
-read-two-requires c κs = search needs
+two-at-requires : tie.Need-two-at-requires
+two-at-requires c κs = search needs
 
 enum-known-h : tie.Need-enum-known-h
 enum-known-h c = search needs
@@ -78,15 +89,15 @@ returns-2 : tie.Need-returns-2
 returns-2 c = (
   let k = c .before .before .before in
       let p = k .before .p .given .0 .0 in
-      sym (no-2 (S k) p (s1 k) (two-none (S k) p (sym (c .before .before .read-two .ensures) ∙ c .enum-told2 .given .1))),
+      sym (no-2 (S k) p (s1 k) (two-none (S k) p (sym (c .before .before .two-at .ensures) ∙ c .enum-told2 .given .1))),
   laws,
 )
 
-slice-aggregate-skip-names-2 : tie.Need-slice-aggregate-skip-names-2
-slice-aggregate-skip-names-2 c = search needs
+slice-aggregate-names-at-2 : tie.Need-slice-aggregate-names-at-2
+slice-aggregate-names-at-2 c = search needs
 
-skip-names-requires-2 : tie.Need-skip-names-requires-2
-skip-names-requires-2 c κs = s2 (c .before) .within
+names-at-requires-2 : tie.Need-names-at-requires-2
+names-at-requires-2 c κs = s2 (c .before) .within
 
 enum-known-t : tie.Need-enum-known-t
 enum-known-t c = search needs
@@ -97,20 +108,17 @@ enum-told-3 c = search needs
 returns-3 : tie.Need-returns-3
 returns-3 c = (
   let j = c .before .before .before .before in
-      let k = j .before .before .before .before in
+      let k = to-1 j in
       let q = j .before .h .given .0 .0 .next in
-      sym (no-3 (S k) (k .before .p .given .0 .0) (s1 k) q (s2 j) (skip-none N2 (S k) q (sym (c .before .before .skip-names2 .ensures) ∙ c .enum-told3 .given .1))),
+      sym (no-3 (S k) (k .before .p .given .0 .0) (s1 k) q (s2 j) (skip-none N2 (S k) q (sym (c .before .before .names-at2 .ensures) ∙ c .enum-told3 .given .1))),
   laws,
 )
 
-pass-fours-requires : tie.Need-pass-fours-requires
-pass-fours-requires c κs = s3 c .within
+slice-aggregate-fours-then-names : tie.Need-slice-aggregate-fours-then-names
+slice-aggregate-fours-then-names c = search needs
 
-slice-aggregate-skip-names-3 : tie.Need-slice-aggregate-skip-names-3
-slice-aggregate-skip-names-3 c = search needs
-
-skip-names-requires-3 : tie.Need-skip-names-requires-3
-skip-names-requires-3 c κs = s4 (c .before) .within
+fours-then-names-requires : tie.Need-fours-then-names-requires
+fours-then-names-requires c κs = s3 (c .before) .within
 
 enum-known-v : tie.Need-enum-known-v
 enum-known-v c = search needs
@@ -120,30 +128,27 @@ enum-told-4 c = search needs
 
 returns-4 : tie.Need-returns-4
 returns-4 c = (
-  let h = c .before .before .before .before in
-      let i = h .before in
-      let j = i .before .before .before .before .before in
-      let k = j .before .before .before .before in
-      let u = h .pass-fours .result in
-      sym (no-4 (S k) (k .before .p .given .0 .0) (s1 k) (j .before .h .given .0 .0 .next) (s2 j) (i .before .t .given .0 .0) u (s3 i) (s4 h)
-      (skip-none N3 (S k) u (sym (c .before .before .skip-names3 .ensures) ∙ c .enum-told4 .given .1))),
+  let i = c .before .before .before .before in
+      let j = to-2 i in
+      let k = to-1 j in
+      sym (no-4 (S k) (k .before .p .given .0 .0) (s1 k) (j .before .h .given .0 .0 .next) (s2 j) (i .before .t .given .0 .0) (past i) (s3 i) (s4 i)
+      (skip-none N3 (S k) (past i) (sym (c .before .before .fours-then-names .ensures) ∙ c .enum-told4 .given .1))),
   laws,
 )
 
 survey-entries-requires : tie.Need-survey-entries-requires
 survey-entries-requires c κs = s5 c .within
 
-s6 : (c : tie.After-survey-entries) → let g = c .before in RowsRead five (S (g .before .before .before .before .before .before .before .before .before .before .before .before .before .before .before)) (g .before .v .given .0 .0) (c .survey-entries .result .past)
-s6 c = let g = c .before in rows-at five (S (g .before .before .before .before .before .before .before .before .before .before .before .before .before .before .before)) (g .before .v .given .0 .0) (c .survey-entries .result .past) (c .survey-entries .ensures .0)
+s6 : (c : tie.After-survey-entries) → let g = c .before in RowsRead five (S (to-1 (to-2 (to-3 g)))) (g .before .v .given .0 .0) (c .survey-entries .result .past)
+s6 c = let g = c .before in rows-at five (S (to-1 (to-2 (to-3 g)))) (g .before .v .given .0 .0) (c .survey-entries .result .past) (c .survey-entries .ensures .0)
 
-ends : (c : tie.After-survey-entries) → let s = S (c .before .before .before .before .before .before .before .before .before .before .before .before .before .before .before .before) in eqb (c .survey-entries .result .past) (length s) ≡ isSome (parse sheetForm s)
+ends : (c : tie.After-survey-entries) → let s = S (to-1 (to-2 (to-3 (c .before)))) in eqb (c .survey-entries .result .past) (length s) ≡ isSome (parse sheetForm s)
 ends c =
     let g = c .before in
-    let h = g .before .before .before .before .before in
-    let i = h .before in
-    let j = i .before .before .before .before .before in
-    let k = j .before .before .before .before in
-    at-end (S k) (k .before .p .given .0 .0) (s1 k) (j .before .h .given .0 .0 .next) (s2 j) (i .before .t .given .0 .0) (h .pass-fours .result) (s3 i) (s4 h)
+    let i = to-3 g in
+    let j = to-2 i in
+    let k = to-1 j in
+    at-end (S k) (k .before .p .given .0 .0) (s1 k) (j .before .h .given .0 .0 .next) (s2 j) (i .before .t .given .0 .0) (past i) (s3 i) (s4 i)
     (g .before .v .given .0 .0) (c .survey-entries .result .past) (s5 g) (s6 c)
 
 returns-5 : tie.Need-returns-5
@@ -153,15 +158,14 @@ returns-6 : tie.Need-returns-6
 returns-6 c =
     let x = c .before .before in
     let g = x .before in
-    let h = g .before .before .before .before .before in
-    let i = h .before in
-    let j = i .before .before .before .before .before in
-    let k = j .before .before .before .before in
+    let i = to-3 g in
+    let j = to-2 i in
+    let k = to-1 j in
     let p = k .before .p .given .0 .0 in
     let f = j .before .h .given .0 .0 in
     let e = c .if1 .left in
-    let y = two-line (S k) p f (sym (j .before .before .before .read-two .ensures) ∙ j .before .h .given .1) in (
-      laid (S k) p (i .before .t .given .0 .0) (h .pass-fours .result) (g .before .v .given .0 .0) (x .survey-entries .result .past) f (x .survey-entries .result .rising) (x .survey-entries .result .fitting) (s1 k) y (s3 i) (s4 h) (s5 g) (s6 x) (sym (ends x) ∙ eq-eqb _ _ e) (omega (arith, e)) (x .survey-entries .ensures .1),
+    let y = two-line (S k) p f (sym (j .before .before .before .two-at .ensures) ∙ j .before .h .given .1) in (
+      laid (S k) p (i .before .t .given .0 .0) (past i) (g .before .v .given .0 .0) (x .survey-entries .result .past) f (x .survey-entries .result .rising) (x .survey-entries .result .fitting) (s1 k) y (s3 i) (s4 i) (s5 g) (s6 x) (sym (ends x) ∙ eq-eqb _ _ e) (omega (arith, e)) (x .survey-entries .ensures .1),
       laws,
     )
 
@@ -169,23 +173,22 @@ pub find-parts-spec : {M : Type 1} → statement M
 find-parts-spec =
     tie.close
     (tie.spec
-    slice-aggregate-skip-names
-    skip-names-requires
+    slice-aggregate-names-at
+    names-at-requires
     enum-known-p
     enum-told
     returns
-    read-two-requires
+    two-at-requires
     enum-known-h
     enum-told-2
     returns-2
-    slice-aggregate-skip-names-2
-    skip-names-requires-2
+    slice-aggregate-names-at-2
+    names-at-requires-2
     enum-known-t
     enum-told-3
     returns-3
-    pass-fours-requires
-    slice-aggregate-skip-names-3
-    skip-names-requires-3
+    slice-aggregate-fours-then-names
+    fours-then-names-requires
     enum-known-v
     enum-told-4
     returns-4

@@ -16,24 +16,24 @@ side e = sym (e .before .is-side .ensures) ∙ not-false _ (e .if1 .left)
 is-side-requires : tie.Need-is-side-requires
 is-side-requires c κs = search needs
 
-pass-fives-requires : tie.Need-pass-fives-requires
-pass-fives-requires c κs = search needs
+fives-end-requires : tie.Need-fives-end-requires
+fives-end-requires c κs = search needs
 
 returns : tie.Need-returns
 returns c =
     let a = c .before .before .before .before .args in
-    (c .pass-fives .ensures, no-side (a .s .now) (a .at) (a .side) (a .levels) false false (sym (c .before .before .is-side .ensures) ∙ not-true _ (c .before .if1 .taken)))
+    (c .fives-end .ensures, no-side (a .s .now) (a .at) (a .side) (a .levels) false false (sym (c .before .before .is-side .ensures) ∙ not-true _ (c .before .if1 .taken)))
 
 is-depth-requires : tie.Need-is-depth-requires
 is-depth-requires c κs = side-small _ (side c)
 
-pass-fives-requires-2 : tie.Need-pass-fives-requires-2
-pass-fives-requires-2 c κs = search needs
+fives-end-requires-2 : tie.Need-fives-end-requires-2
+fives-end-requires-2 c κs = search needs
 
 returns-2 : tie.Need-returns-2
 returns-2 c =
     let a = c .before .before .before .before .before .before .args in
-    (c .pass-fives2 .ensures, no-depth (a .s .now) (a .at) (a .side) (a .levels) false false (sym (c .before .before .is-depth .ensures) ∙ not-true _ (c .before .if2 .taken)))
+    (c .fives-end2 .ensures, no-depth (a .s .now) (a .at) (a .side) (a .levels) false false (sym (c .before .before .is-depth .ensures) ∙ not-true _ (c .before .if2 .taken)))
 
 look-along-requires : tie.Need-look-along-requires
 look-along-requires c κs = (side (c .before .before), sym (c .before .is-depth .ensures) ∙ not-false _ (c .if2 .left), c .before .before .before .before .before .pre)
@@ -46,10 +46,10 @@ survey-entries-spec =
     tie.close
     (tie.spec
     is-side-requires
-    pass-fives-requires
+    fives-end-requires
     returns
     is-depth-requires
-    pass-fives-requires-2
+    fives-end-requires-2
     returns-2
     look-along-requires
     returns-3)
