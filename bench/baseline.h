@@ -27,7 +27,6 @@ uint32_t base_write(int form, size_t side, size_t levels, const int64_t *plane, 
 uint32_t base_read(const uint8_t *text, size_t text_len, int64_t *plane, size_t plane_len, uint8_t *coverings, size_t coverings_len,
                    size_t *side, size_t *levels);
 uint32_t base_usage(const uint8_t *coverings, size_t coverings_len, uint8_t *buffer, size_t buffer_len, size_t *length);
-uint32_t base_cutter(const uint8_t *text, size_t text_len, uint8_t *out, size_t out_len, size_t *length);
 
 /* Cuts as base_keep does, but ranked by |W| alone. For the picture that shows what this loses. */
 uint32_t base_keep_raw(size_t side, size_t levels, int64_t *plane, size_t plane_len, uint64_t quota, size_t *left);

@@ -2,7 +2,7 @@
    entry, the ratio, how cost grows with the side, and the peak resident size. */
 #define _GNU_SOURCE
 #include "baseline.h"
-#include "weak.h"
+#include "tetrolet.h"
 
 #include <stdio.h>
 #include <stdlib.h>
@@ -138,24 +138,19 @@ static struct times measure(size_t side, size_t levels)
         memcpy(q, p, bytes);
         TIME(t.base_keep, base_keep(side, levels, q, area, area / 10, &left));
         memcpy(q, p, bytes);
-        if (tetrolet_keep)
-            TIME(t.keep, tetrolet_keep(side, levels, q, area, area / 10, &left));
+        TIME(t.keep, tetrolet_keep(side, levels, q, area, area / 10, &left));
         TIME(t.digits, base_write(BASE_DIGITS, side, levels, p, area, c, blocks, text, TETROLET_MAX_SHEET, &length));
         TIME(t.printed, base_write(BASE_PRINTF, side, levels, p, area, c, blocks, text, TETROLET_MAX_SHEET, &length));
-        if (tetrolet_write)
-            TIME(t.write, tetrolet_write(side, levels, p, area, c, blocks, text, TETROLET_MAX_SHEET, &length));
+        TIME(t.write, tetrolet_write(side, levels, p, area, c, blocks, text, TETROLET_MAX_SHEET, &length));
         TIME(t.base_read, base_read(text, length, q, area, d, blocks, &s, &l));
-        if (tetrolet_read)
-            TIME(t.read, tetrolet_read(text, length, q, area, d, blocks, &s, &l));
+        TIME(t.read, tetrolet_read(text, length, q, area, d, blocks, &s, &l));
     }
     return t;
 }
 
 static void line(const char *name, double ours, const char *form, double theirs, double bar)
 {
-    if (ours == 0)
-        printf("%-10s %9s   %-9s %9.3f   not exported yet\n", name, "", form, theirs);
-    else if (bar == 0)
+    if (bar == 0)
         printf("%-10s %9.3f   %-9s %9.3f   %5.2f\n", name, ours, form, theirs, ours / theirs);
     else
         printf("%-10s %9.3f   %-9s %9.3f   %5.2f   at most %.1f: %s\n", name, ours, form, theirs, ours / theirs, bar, ours / theirs <= bar ? "met" : "not met");
@@ -242,10 +237,7 @@ int main(int argc, char **argv)
         double ours[5] = { g.decompose, g.restore, g.keep, g.write, g.read };
         printf("%5zu", side);
         for (int k = 0; k < 5; k++)
-            if (ours[k] == 0)
-                printf("  %17s", "-");
-            else
-                printf("  %8.3f (%6.1f)", ours[k], ours[k] * 1e6 / (double)(side * side));
+            printf("  %8.3f (%6.1f)", ours[k], ours[k] * 1e6 / (double)(side * side));
         printf("\n");
     }
 

@@ -7,5 +7,5 @@ if [ "${1:-}" != --built ]; then
     rt staticlib c_api >target/bench/staticlib.log 2>&1 || { cat target/bench/staticlib.log; exit 1; }
 fi
 cc -O2 -std=c11 -Wall -Wextra -Iinclude -Ibench bench/bench.c bench/baseline.c \
-    -Wl,--whole-archive target/staticlib/libc_api.a -Wl,--no-whole-archive -o target/bench/bench
+    target/staticlib/libc_api.a -o target/bench/bench
 target/bench/bench

@@ -34,7 +34,6 @@ int main(void)
         entries += plane[k] != 0;
     printf("decomposed side %d with %d levels: %d blocks, %d different coverings, %d plane entries not zero\n", SIDE, LEVELS, BLOCKS, kinds, entries);
 
-#ifdef HAVE_ALL
     size_t left = 0, length = 0, side = 0, levels = 0;
     accepted("keep", tetrolet_keep(SIDE, LEVELS, plane, AREA, QUOTA, &left));
     printf("kept %zu tetrolet coefficients\n", left);
@@ -48,9 +47,6 @@ int main(void)
     accepted("read", tetrolet_read(sheet, length, plane_read, AREA, coverings_read, BLOCKS, &side, &levels));
     printf("read it back: side %zu, levels %zu\n", side, levels);
     accepted("restore", tetrolet_restore(side, levels, plane_read, AREA, coverings_read, BLOCKS, numerators, AREA, samples, AREA, scratch, AREA));
-#else
-    accepted("restore", tetrolet_restore(SIDE, LEVELS, plane, AREA, coverings, BLOCKS, numerators, AREA, samples, AREA, scratch, AREA));
-#endif
 
     long distance = 0;
     for (int k = 0; k < AREA; k++)

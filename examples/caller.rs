@@ -1,6 +1,5 @@
 // A caller in Rust: decomposes a small image, keeps the best coefficients, writes the sheet, reads it back and restores the image.
 // The functions below wrap the C entries in slices, so that lengths and pointers cannot be mistaken.
-#![allow(unexpected_cfgs)]
 
 mod ffi {
     extern "C" {
@@ -30,7 +29,6 @@ mod ffi {
             scratch: *mut i64,
             scratch_len: usize,
         ) -> u32;
-        #[cfg(have_all)]
         pub fn tetrolet_keep(
             side: usize,
             levels: usize,
@@ -39,7 +37,6 @@ mod ffi {
             quota: u64,
             left: *mut usize,
         ) -> u32;
-        #[cfg(have_all)]
         pub fn tetrolet_write(
             side: usize,
             levels: usize,
@@ -51,7 +48,6 @@ mod ffi {
             buffer_len: usize,
             length: *mut usize,
         ) -> u32;
-        #[cfg(have_all)]
         pub fn tetrolet_read(
             text: *const u8,
             text_len: usize,
@@ -128,7 +124,6 @@ fn restore(
     answer(n, ())
 }
 
-#[cfg(have_all)]
 fn keep(side: usize, levels: usize, plane: &mut [i64], quota: u64) -> Answer<usize> {
     let mut left = 0;
     let n = unsafe {
@@ -144,7 +139,6 @@ fn keep(side: usize, levels: usize, plane: &mut [i64], quota: u64) -> Answer<usi
     answer(n, left)
 }
 
-#[cfg(have_all)]
 fn write(
     side: usize,
     levels: usize,
@@ -169,7 +163,6 @@ fn write(
     answer(n, length)
 }
 
-#[cfg(have_all)]
 fn read(text: &[u8], plane: &mut [i64], coverings: &mut [u8]) -> Answer<(usize, usize)> {
     let (mut side, mut levels) = (0, 0);
     let n = unsafe {
@@ -218,7 +211,6 @@ fn run() -> Answer<()> {
     let entries = plane.iter().filter(|v| **v != 0).count();
     println!("decomposed side {SIDE} with {LEVELS} levels: {BLOCKS} blocks, {kinds} different coverings, {entries} plane entries not zero");
 
-    #[cfg(have_all)]
     let (side, levels, plane, coverings) = {
         let left = keep(SIDE, LEVELS, &mut plane, 60)?;
         println!("kept {left} tetrolet coefficients");
@@ -230,8 +222,6 @@ fn run() -> Answer<()> {
         println!("read it back: side {side}, levels {levels}");
         (side, levels, plane, coverings)
     };
-    #[cfg(not(have_all))]
-    let (side, levels) = (SIDE, LEVELS);
 
     let (mut numerators, mut samples) = (vec![0; AREA], vec![0; AREA]);
     restore(

@@ -8,14 +8,8 @@ if [ "${1:-}" != --built ]; then
     rt staticlib c_api >target/examples/staticlib.log 2>&1 || { cat target/examples/staticlib.log; exit 1; }
 fi
 archive=target/staticlib/libc_api.a
-c_flags= rust_flags=
-if [ "$(nm "$archive" 2>/dev/null | grep -cE ' T tetrolet_(keep|write|read)$')" = 3 ]; then
-    c_flags=-DHAVE_ALL rust_flags='--cfg have_all'
-else
-    echo "keep, write and read are not exported yet: decompose and restore only"
-fi
-cc -O2 -std=c11 -Wall -Wextra $c_flags -Iinclude examples/caller.c "$archive" -o target/examples/caller_c
-rustc --edition 2021 -O $rust_flags -L native=target/staticlib -l static=c_api examples/caller.rs -o target/examples/caller_rust
+cc -O2 -std=c11 -Wall -Wextra -Iinclude examples/caller.c "$archive" -o target/examples/caller_c
+rustc --edition 2021 -O -L native=target/staticlib -l static=c_api examples/caller.rs -o target/examples/caller_rust
 echo "C:"
 target/examples/caller_c | tee target/examples/c.txt
 echo "Rust:"

@@ -48,7 +48,6 @@ enum {
 #define TETROLET_MAX_BLOCKS 21845
 #define TETROLET_MAX_SHEET 4772573
 #define TETROLET_MAX_USAGE 851
-#define TETROLET_MAX_CUTTER_SHEET 16144
 
 /* B, the number of coverings for an accepted side and levels. */
 static inline size_t tetrolet_blocks(size_t side, size_t levels)
@@ -138,15 +137,6 @@ uint32_t tetrolet_read(const uint8_t *text, size_t text_len, int64_t *plane, siz
  * Refusals: 3 (over 21,845 coverings), 5, 10. TETROLET_MAX_USAGE bytes are always enough.
  */
 uint32_t tetrolet_usage(const uint8_t *coverings, size_t coverings_len, uint8_t *buffer, size_t buffer_len, size_t *length);
-
-/*
- * The cutter: reads side, levels, quota and samples from a text, decomposes, keeps, and gives the sheet.
- *   text       any length; over 65,536 bytes is 9
- *   out        the sheet is written from its start, further bytes stay
- *   length     the number of bytes written
- * Refusals: 9 on the first two lines, 1, 12, 2, 9 on all that follows, 4, 7. TETROLET_MAX_CUTTER_SHEET bytes are always enough.
- */
-uint32_t tetrolet_cutter(const uint8_t *text, size_t text_len, uint8_t *out, size_t out_len, size_t *length);
 
 #ifdef __cplusplus
 }

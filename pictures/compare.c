@@ -5,7 +5,7 @@
    times as large. Decomposing and restoring are the library's in both. The two squared distances are printed on the error output. */
 #include "baseline.h"
 #include "image.h"
-#include "weak.h"
+#include "tetrolet.h"
 
 #include <stdlib.h>
 #include <string.h>
@@ -73,9 +73,7 @@ int main(int argc, char **argv)
     say("ranked by |W|:", side, levels, raw);
 
     memcpy(kept, plane, area * sizeof *plane);
-    if (tetrolet_keep == NULL)
-        fprintf(stderr, "keep is not exported yet: the plain C stands in for it\n");
-    accepted("keep", tetrolet_keep != NULL ? tetrolet_keep(side, levels, kept, area, quota, &left) : base_keep(side, levels, kept, area, quota, &left));
+    accepted("keep", tetrolet_keep(side, levels, kept, area, quota, &left));
     accepted("restore", tetrolet_restore(side, levels, kept, area, coverings, blocks, numerators, area, left_ours, area, scratch, area));
     unsigned long long ours = distance(image, left_ours, area);
     say("ranked as ours is:", side, levels, ours);

@@ -15,17 +15,13 @@ cc $flags pictures/veneer.c pictures/image.c -o target/pictures/veneer
 target/pictures/veneer >target/pictures/veneer.pgm
 cmp target/pictures/veneer.pgm pictures/veneer.pgm
 
-cc $flags pictures/compare.c pictures/image.c bench/baseline.c -Wl,--whole-archive "$archive" -Wl,--no-whole-archive -o target/pictures/compare
+cc $flags pictures/compare.c pictures/image.c bench/baseline.c "$archive" -o target/pictures/compare
 target/pictures/compare $levels $quota <pictures/veneer.pgm >target/pictures/quota.png
 cmp target/pictures/quota.png pictures/quota.png
 
-if [ "$(nm "$archive" 2>/dev/null | grep -cE ' T tetrolet_(keep|write|read)$')" = 3 ]; then
-    cc $flags pictures/pgm.c pictures/image.c "$archive" -o target/pictures/pgm
-    target/pictures/pgm to-sheet $levels $quota <pictures/veneer.pgm >target/pictures/veneer.sheet
-    target/pictures/pgm to-pgm <target/pictures/veneer.sheet >target/pictures/kept.pgm
-    echo "target/pictures/veneer.sheet: $(wc -c <target/pictures/veneer.sheet) bytes; target/pictures/kept.pgm: what a quota of $quota leaves"
-    target/pictures/pgm to-sheet $levels 65520 <pictures/veneer.pgm | target/pictures/pgm to-pgm | cmp - pictures/veneer.pgm
-    echo "the whole quota gives the picture back"
-else
-    echo "keep, write and read are not exported yet: target/pictures/pgm is not built"
-fi
+cc $flags pictures/pgm.c pictures/image.c "$archive" -o target/pictures/pgm
+target/pictures/pgm to-sheet $levels $quota <pictures/veneer.pgm >target/pictures/veneer.sheet
+target/pictures/pgm to-pgm <target/pictures/veneer.sheet >target/pictures/kept.pgm
+echo "target/pictures/veneer.sheet: $(wc -c <target/pictures/veneer.sheet) bytes; target/pictures/kept.pgm: what a quota of $quota leaves"
+target/pictures/pgm to-sheet $levels 65520 <pictures/veneer.pgm | target/pictures/pgm to-pgm | cmp - pictures/veneer.pgm
+echo "the whole quota gives the picture back"

@@ -1,18 +1,24 @@
-/* Random and damaged calls through the C interface, compared with the plain C of bench/baseline.c: the answer, every slice and every
-   number lent. A refused call must leave all as it was.
+/* Random and damaged calls through the C interface, compared with the plain C of bench/baseline.c and, where the side is at most 16,
+   with the plain second implementation (crate plain_c): the answer, every slice and every number lent. A refused call must leave all
+   as it was.
 
    fuzz [CALLS [SEED]]
 
    Each slice lent to the library stands flush against a page that may not be touched, before it or after it, so that a read or a
-   store outside it ends the program. The plain C works on heap blocks of exact length, under the address sanitizer. */
+   store outside it ends the program. The two others work on heap blocks of exact length, the plain C under the address sanitizer. */
 #define _GNU_SOURCE
 #include "baseline.h"
-#include "weak.h"
+#include "plain.h"
+#include "tetrolet.h"
 
 #include <stdio.h>
 #include <stdlib.h>
 #include <string.h>
 #include <sys/mman.h>
+
+/* The words of the coverings as the plain second implementation finds them. */
+#define WORDS 1872
+static uint8_t words[WORDS];
 
 static uint64_t state;
 
@@ -43,6 +49,7 @@ static int once_in(uint64_t n)
 struct slice {
     void *lib;   /* lent to the library */
     void *base;  /* lent to the plain C */
+    void *plain; /* lent to the plain second implementation */
     void *old;   /* what both held before */
     size_t len;  /* in elements */
     size_t bytes;
@@ -74,6 +81,7 @@ static struct slice *lend(size_t len, size_t size)
         abort();
     s->lib = once_in(2) ? slots[lent_count] : slots[lent_count] + ROOM - s->bytes;
     s->base = malloc(s->bytes);
+    s->plain = malloc(s->bytes);
     s->old = malloc(s->bytes);
     uint8_t *p = s->base;
     uint64_t r = next();
@@ -87,6 +95,7 @@ static void settle(void)
 {
     for (int k = 0; k < lent_count; k++) {
         memcpy(lent[k].lib, lent[k].base, lent[k].bytes);
+        memcpy(lent[k].plain, lent[k].base, lent[k].bytes);
         memcpy(lent[k].old, lent[k].base, lent[k].bytes);
     }
 }
@@ -102,10 +111,29 @@ static void differ(const char *what)
 
 struct tally {
     const char *name;
-    unsigned long accepted, refused[16];
+    unsigned long accepted, refused[16], plain;
 };
 
-/* Compares what a call left, and gives the slices back. */
+/* Whether the plain second implementation, which is slow, is asked too. */
+static int asks_plain(size_t side)
+{
+    return side <= 16;
+}
+
+/* Compares what the library left with what the plain second implementation left, which answered c. */
+static void compare_plain(struct tally *t, uint32_t a, uint32_t c)
+{
+    if (a != c) {
+        printf("the library answers %u, the plain second implementation %u\n", a, c);
+        differ("answers differ");
+    }
+    for (int k = 0; k < lent_count; k++)
+        if (memcmp(lent[k].lib, lent[k].plain, lent[k].bytes) != 0)
+            differ("slices differ from those of the plain second implementation");
+    t->plain++;
+}
+
+/* Compares what the library left with what the plain C left. */
 static void compare(struct tally *t, uint32_t a, uint32_t b)
 {
     if (a != b) {
@@ -128,6 +156,7 @@ static void drop(void)
 {
     for (int k = 0; k < lent_count; k++) {
         free(lent[k].base);
+        free(lent[k].plain);
         free(lent[k].old);
     }
     lent_count = 0;
@@ -350,7 +379,9 @@ static void call_word(struct tally *t)
     uint8_t covering = (uint8_t)(once_in(4) ? below(256) : 1 + below(117));
     struct slice *word = lend(length_near(16), 1);
     settle();
-    compare(t, tetrolet_word(covering, word->lib, word->len), base_word(covering, word->base, word->len));
+    uint32_t a = tetrolet_word(covering, word->lib, word->len);
+    compare_plain(t, a, plain_word(words, WORDS, covering, word->plain, word->len));
+    compare(t, a, base_word(covering, word->base, word->len));
 }
 
 static void call_decompose(struct tally *t)
@@ -362,6 +393,9 @@ static void call_decompose(struct tally *t)
     settle();
     uint32_t a = tetrolet_decompose(f.side, f.levels, samples->lib, samples->len, plane->lib, plane->len, coverings->lib, coverings->len, scratch->lib,
                                     scratch->len);
+    if (asks_plain(f.made))
+        compare_plain(t, a, plain_decompose(words, WORDS, f.side, f.levels, samples->plain, samples->len, plane->plain, plane->len,
+                                            coverings->plain, coverings->len, scratch->plain, scratch->len));
     compare(t, a, base_decompose((int)below(2), f.side, f.levels, samples->base, samples->len, plane->base, plane->len, coverings->base, coverings->len,
                                  scratch->base, scratch->len));
 }
@@ -376,6 +410,9 @@ static void call_restore(struct tally *t)
     settle();
     uint32_t a = tetrolet_restore(f.side, f.levels, plane->lib, plane->len, coverings->lib, coverings->len, numerators->lib, numerators->len,
                                   samples->lib, samples->len, scratch->lib, scratch->len);
+    if (asks_plain(f.made))
+        compare_plain(t, a, plain_restore(words, WORDS, f.side, f.levels, plane->plain, plane->len, coverings->plain, coverings->len,
+                                          numerators->plain, numerators->len, samples->plain, samples->len, scratch->plain, scratch->len));
     compare(t, a, base_restore(f.side, f.levels, plane->base, plane->len, coverings->base, coverings->len, numerators->base, numerators->len,
                                samples->base, samples->len, scratch->base, scratch->len));
 }
@@ -389,6 +426,8 @@ static void call_keep(struct tally *t)
     fill_plane(plane->base, plane->len, f);
     settle();
     uint32_t a = tetrolet_keep(f.side, f.levels, plane->lib, plane->len, quota, left->lib);
+    if (asks_plain(f.made))
+        compare_plain(t, a, plain_keep(f.side, f.levels, plane->plain, plane->len, quota, left->plain));
     compare(t, a, base_keep(f.side, f.levels, plane->base, plane->len, quota, left->base));
 }
 
@@ -401,6 +440,8 @@ static void call_threshold(struct tally *t)
     fill_plane(plane->base, plane->len, f);
     settle();
     uint32_t a = tetrolet_threshold(f.side, f.levels, plane->lib, plane->len, threshold, left->lib);
+    if (asks_plain(f.made))
+        compare_plain(t, a, plain_threshold(f.side, f.levels, plane->plain, plane->len, threshold, left->plain));
     compare(t, a, base_threshold(f.side, f.levels, plane->base, plane->len, threshold, left->base));
 }
 
@@ -424,6 +465,9 @@ static void call_write(struct tally *t)
     struct slice *buffer = lend_buffer(n);
     settle();
     uint32_t a = tetrolet_write(f.side, f.levels, plane->lib, plane->len, coverings->lib, coverings->len, buffer->lib, buffer->len, length->lib);
+    if (asks_plain(f.made))
+        compare_plain(t, a, plain_write(f.side, f.levels, plane->plain, plane->len, coverings->plain, coverings->len, buffer->plain,
+                                        buffer->len, length->plain));
     compare(t, a, base_write(BASE_DIGITS, f.side, f.levels, plane->base, plane->len, coverings->base, coverings->len, buffer->base, buffer->len,
                              length->base));
 }
@@ -448,6 +492,9 @@ static void call_read(struct tally *t)
     memcpy(sheet->base, text, text_len);
     settle();
     uint32_t a = tetrolet_read(sheet->lib, sheet->len, plane->lib, plane->len, coverings->lib, coverings->len, side->lib, levels->lib);
+    if (asks_plain(f.made))
+        compare_plain(t, a, plain_read(sheet->plain, sheet->len, plane->plain, plane->len, coverings->plain, coverings->len, side->plain,
+                                       levels->plain));
     compare(t, a, base_read(sheet->base, sheet->len, plane->base, plane->len, coverings->base, coverings->len, side->base, levels->base));
 }
 
@@ -497,34 +544,14 @@ static void call_usage(struct tally *t)
     settle();
     uint32_t a = tetrolet_usage(coverings->lib, n, buffer->lib, buffer->len, length->lib);
     uint32_t b = base_usage(coverings->base, n, buffer->base, buffer->len, length->base);
-    if (a == 0 && b == 0 && *(size_t *)length->lib == size) {
+    uint32_t c = plain_usage(coverings->plain, n, buffer->plain, buffer->len, length->plain);
+    if (a == 0 && b == 0 && c == 0 && *(size_t *)length->lib == size) {
         sort_lines(buffer->lib, size);
         sort_lines(buffer->base, size);
+        sort_lines(buffer->plain, size);
     }
+    compare_plain(t, a, c);
     compare(t, a, b);
-}
-
-static void call_cutter(struct tally *t)
-{
-    struct frame f = make_frame();
-    uint64_t most = f.area - (f.area >> 2 * f.good_levels), range = 1 + below(4096);
-    if (f.made > 64)
-        f.made = 64;
-    text_len = (size_t)sprintf((char *)text, "side levels quota\n%zu %zu %llu\nsamples\n", f.side, f.levels, (unsigned long long)below(most + 2));
-    for (size_t y = 0; y < f.made; y++)
-        for (size_t x = 0; x < f.made; x++)
-            text_len += (size_t)sprintf((char *)text + text_len, "%llu%c", (unsigned long long)below(range), x + 1 == f.made ? '\n' : ' ');
-    damage_some();
-    if (once_in(2000)) { /* at the limit of the length */
-        size_t n = 65536 + below(2);
-        while (text_len < n)
-            text[text_len++] = once_in(2) ? ' ' : '0';
-    }
-    struct slice *in = lend(text_len, 1), *out = lend(TETROLET_MAX_CUTTER_SHEET, 1), *length = lend(1, sizeof(size_t));
-    memcpy(in->base, text, text_len);
-    settle();
-    uint32_t a = tetrolet_cutter(in->lib, in->len, out->lib, out->len, length->lib);
-    compare(t, a, base_cutter(in->base, in->len, out->base, out->len, length->base));
 }
 
 int main(int argc, char **argv)
@@ -533,44 +560,35 @@ int main(int argc, char **argv)
     first_seed = argc > 2 ? strtoull(argv[2], NULL, 10) : 1;
     state = first_seed * 0x9e3779b97f4a7c15u + 88172645463325252u;
     base_init();
+    plain_words(words, WORDS);
     make_slots();
     struct {
-        int there;
         void (*run)(struct tally *);
         struct tally tally;
     } entries[] = {
-        { tetrolet_word != NULL, call_word, { "word", 0, { 0 } } },
-        { tetrolet_decompose != NULL, call_decompose, { "decompose", 0, { 0 } } },
-        { tetrolet_restore != NULL, call_restore, { "restore", 0, { 0 } } },
-        { tetrolet_keep != NULL, call_keep, { "keep", 0, { 0 } } },
-        { tetrolet_threshold != NULL, call_threshold, { "threshold", 0, { 0 } } },
-        { tetrolet_write != NULL, call_write, { "write", 0, { 0 } } },
-        { tetrolet_read != NULL, call_read, { "read", 0, { 0 } } },
-        { tetrolet_usage != NULL, call_usage, { "usage", 0, { 0 } } },
-        { tetrolet_cutter != NULL, call_cutter, { "cutter", 0, { 0 } } },
+        { call_word, { "word", 0, { 0 }, 0 } },
+        { call_decompose, { "decompose", 0, { 0 }, 0 } },
+        { call_restore, { "restore", 0, { 0 }, 0 } },
+        { call_keep, { "keep", 0, { 0 }, 0 } },
+        { call_threshold, { "threshold", 0, { 0 }, 0 } },
+        { call_write, { "write", 0, { 0 }, 0 } },
+        { call_read, { "read", 0, { 0 }, 0 } },
+        { call_usage, { "usage", 0, { 0 }, 0 } },
     };
     size_t count = sizeof entries / sizeof *entries;
-    for (size_t k = 0; k < count; k++)
-        if (!entries[k].there)
-            printf("%s is not exported yet: left out\n", entries[k].tally.name);
-    for (call_number = 0; call_number < calls;) {
+    for (call_number = 0; call_number < calls; call_number++) {
         size_t k = below(count);
-        if (!entries[k].there)
-            continue;
         entry = entries[k].tally.name;
         entries[k].run(&entries[k].tally);
         drop();
-        call_number++;
     }
     for (size_t k = 0; k < count; k++) {
         struct tally *t = &entries[k].tally;
-        if (!entries[k].there)
-            continue;
         printf("%-10s %8lu accepted; refused:", t->name, t->accepted);
         for (int n = 1; n < 16; n++)
             if (t->refused[n] != 0)
                 printf("  %d: %lu", n, t->refused[n]);
-        printf("\n");
+        printf("; beside the second implementation: %lu\n", t->plain);
     }
     printf("%llu calls, no difference\n", (unsigned long long)calls);
     return 0;

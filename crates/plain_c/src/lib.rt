@@ -1,0 +1,97 @@
+// The plain second implementation for callers in C, so that the harness of random calls (tests/fuzz.c) can hold the library to it. Proved safe only, as what
+// it calls. A slice passes as a pointer and a count of its elements; `words` are those that `plain_words` finds.
+use plain_frame::outcome::Outcome;
+
+// The number of an answer; what was asked for goes to `a`, which a refused call leaves as it was.
+fn told(o: Outcome, a: &mut usize) -> u32 {
+    if o.refusal == 0 {
+        *a = o.a;
+    }
+    o.refusal
+}
+
+// Fills 1,872 places with the words of the 117 coverings.
+#[no_mangle]
+pub extern "C" fn plain_words(words: &mut [u8]) {
+    plain::tiles::list_words(words);
+}
+
+#[no_mangle]
+pub extern "C" fn plain_word(words: &[u8], covering: u8, word: &mut [u8]) -> u32 {
+    plain::tiles::pieces(words, covering, word)
+}
+
+#[no_mangle]
+pub extern "C" fn plain_decompose(
+    words: &[u8],
+    side: usize,
+    levels: usize,
+    samples: &[u16],
+    plane: &mut [i64],
+    coverings: &mut [u8],
+    scratch: &mut [i64],
+) -> u32 {
+    plain::pyramid::decompose(words, side, levels, samples, plane, coverings, scratch)
+}
+
+#[no_mangle]
+pub extern "C" fn plain_restore(
+    words: &[u8],
+    side: usize,
+    levels: usize,
+    plane: &[i64],
+    coverings: &[u8],
+    numerators: &mut [i64],
+    samples: &mut [u16],
+    scratch: &mut [i64],
+) -> u32 {
+    plain::pyramid::restore(words, side, levels, plane, coverings, scratch, numerators, samples)
+}
+
+#[no_mangle]
+pub extern "C" fn plain_keep(side: usize, levels: usize, plane: &mut [i64], quota: u64, left: &mut usize) -> u32 {
+    told(plain::cut::keep(side, levels, plane, quota), left)
+}
+
+#[no_mangle]
+pub extern "C" fn plain_threshold(
+    side: usize,
+    levels: usize,
+    plane: &mut [i64],
+    limit: u64,
+    left: &mut usize,
+) -> u32 {
+    told(plain::cut::cut(side, levels, plane, limit), left)
+}
+
+#[no_mangle]
+pub extern "C" fn plain_write(
+    side: usize,
+    levels: usize,
+    plane: &[i64],
+    coverings: &[u8],
+    buffer: &mut [u8],
+    length: &mut usize,
+) -> u32 {
+    told(plain_text::writing::write(side, levels, plane, coverings, buffer), length)
+}
+
+#[no_mangle]
+pub extern "C" fn plain_read(
+    text: &[u8],
+    plane: &mut [i64],
+    coverings: &mut [u8],
+    side: &mut usize,
+    levels: &mut usize,
+) -> u32 {
+    let o = plain_text::reading::read(text, plane, coverings);
+    if o.refusal == 0 {
+        *levels = o.b;
+    }
+    told(o, side)
+}
+
+#[no_mangle]
+pub extern "C" fn plain_usage(coverings: &[u8], buffer: &mut [u8], length: &mut usize) -> u32 {
+    told(plain_text::writing::usage(coverings, buffer), length)
+}
