@@ -62,46 +62,37 @@ static void check(int good, const char *what, size_t side, size_t levels)
         differ(what, side, levels);
 }
 
-/* Whether both give the same, through all entries that are there. */
+/* Whether both give the same, through all entries. */
 static void agree(size_t side, size_t levels, int kind)
 {
     size_t area = side * side, blocks = tetrolet_blocks(side, levels), bytes = area * sizeof(int64_t);
+    size_t left[2], length[2], s[2], l[2];
+    uint64_t quota = next() % (area - (area >> 2 * levels) + 1), limit = next() % 64;
+    uint32_t a, b;
     make_image(side, kind);
     for (int form = 0; form < 2; form++) {
-        uint32_t a = tetrolet_decompose(side, levels, image, area, plane[0], area, coverings[0], blocks, scratch[0], area);
-        uint32_t b = base_decompose(form, side, levels, image, area, plane[1], area, coverings[1], blocks, scratch[1], area);
+        a = tetrolet_decompose(side, levels, image, area, plane[0], area, coverings[0], blocks, scratch[0], area);
+        b = base_decompose(form, side, levels, image, area, plane[1], area, coverings[1], blocks, scratch[1], area);
         check(a == 0 && b == 0 && !memcmp(plane[0], plane[1], bytes) && !memcmp(coverings[0], coverings[1], blocks)
                   && !memcmp(scratch[0], scratch[1], bytes), "decompositions", side, levels);
     }
-    if (tetrolet_keep) {
-        size_t left[2] = { 0, 0 };
-        uint64_t quota = next() % (area - (area >> 2 * levels) + 1);
-        uint32_t a = tetrolet_keep(side, levels, plane[0], area, quota, left), b = base_keep(side, levels, plane[1], area, quota, left + 1);
-        check(a == 0 && b == 0 && left[0] == left[1] && !memcmp(plane[0], plane[1], bytes), "kept planes", side, levels);
-    }
-    if (tetrolet_threshold) {
-        size_t left[2] = { 0, 0 };
-        uint64_t t = next() % 64;
-        uint32_t a = tetrolet_threshold(side, levels, plane[0], area, t, left), b = base_threshold(side, levels, plane[1], area, t, left + 1);
-        check(a == 0 && b == 0 && left[0] == left[1] && !memcmp(plane[0], plane[1], bytes), "cut planes", side, levels);
-    }
-    if (tetrolet_write) {
-        size_t length[2] = { 0, 0 };
-        uint32_t a = tetrolet_write(side, levels, plane[0], area, coverings[0], blocks, buffer[0], TETROLET_MAX_SHEET, length);
-        uint32_t b = base_write(BASE_DIGITS, side, levels, plane[0], area, coverings[0], blocks, buffer[1], TETROLET_MAX_SHEET, length + 1);
-        check(a == 0 && b == 0 && length[0] == length[1] && !memcmp(buffer[0], buffer[1], length[0]), "sheets", side, levels);
-        b = base_write(BASE_PRINTF, side, levels, plane[0], area, coverings[0], blocks, buffer[1], TETROLET_MAX_SHEET, length + 1);
-        check(b == 0 && length[0] == length[1] && !memcmp(buffer[0], buffer[1], length[0]), "printed sheets", side, levels);
-        if (tetrolet_read) {
-            size_t s[2] = { 0, 0 }, l[2] = { 0, 0 };
-            a = tetrolet_read(buffer[0], length[0], numerators[0], area, coverings[0], blocks, s, l);
-            b = base_read(buffer[0], length[0], numerators[1], area, coverings[1], blocks, s + 1, l + 1);
-            check(a == 0 && b == 0 && s[0] == side && l[0] == levels && s[1] == side && l[1] == levels && !memcmp(plane[0], numerators[0], bytes)
-                      && !memcmp(plane[0], numerators[1], bytes) && !memcmp(coverings[0], coverings[1], blocks), "sheets read", side, levels);
-        }
-    }
-    uint32_t a = tetrolet_restore(side, levels, plane[0], area, coverings[0], blocks, numerators[0], area, samples[0], area, scratch[0], area);
-    uint32_t b = base_restore(side, levels, plane[0], area, coverings[0], blocks, numerators[1], area, samples[1], area, scratch[1], area);
+    a = tetrolet_keep(side, levels, plane[0], area, quota, left);
+    b = base_keep(side, levels, plane[1], area, quota, left + 1);
+    check(a == 0 && b == 0 && left[0] == left[1] && !memcmp(plane[0], plane[1], bytes), "kept planes", side, levels);
+    a = tetrolet_threshold(side, levels, plane[0], area, limit, left);
+    b = base_threshold(side, levels, plane[1], area, limit, left + 1);
+    check(a == 0 && b == 0 && left[0] == left[1] && !memcmp(plane[0], plane[1], bytes), "cut planes", side, levels);
+    a = tetrolet_write(side, levels, plane[0], area, coverings[0], blocks, buffer[0], TETROLET_MAX_SHEET, length);
+    b = base_write(BASE_DIGITS, side, levels, plane[0], area, coverings[0], blocks, buffer[1], TETROLET_MAX_SHEET, length + 1);
+    check(a == 0 && b == 0 && length[0] == length[1] && !memcmp(buffer[0], buffer[1], length[0]), "sheets", side, levels);
+    b = base_write(BASE_PRINTF, side, levels, plane[0], area, coverings[0], blocks, buffer[1], TETROLET_MAX_SHEET, length + 1);
+    check(b == 0 && length[0] == length[1] && !memcmp(buffer[0], buffer[1], length[0]), "printed sheets", side, levels);
+    a = tetrolet_read(buffer[0], length[0], numerators[0], area, coverings[0], blocks, s, l);
+    b = base_read(buffer[0], length[0], numerators[1], area, coverings[1], blocks, s + 1, l + 1);
+    check(a == 0 && b == 0 && s[0] == side && l[0] == levels && s[1] == side && l[1] == levels && !memcmp(plane[0], numerators[0], bytes)
+              && !memcmp(plane[0], numerators[1], bytes) && !memcmp(coverings[0], coverings[1], blocks), "sheets read", side, levels);
+    a = tetrolet_restore(side, levels, plane[0], area, coverings[0], blocks, numerators[0], area, samples[0], area, scratch[0], area);
+    b = base_restore(side, levels, plane[0], area, coverings[0], blocks, numerators[1], area, samples[1], area, scratch[1], area);
     check(a == 0 && b == 0 && !memcmp(numerators[0], numerators[1], bytes) && !memcmp(samples[0], samples[1], area * sizeof(uint16_t))
               && !memcmp(scratch[0], scratch[1], bytes), "restorations", side, levels);
 }
