@@ -60,10 +60,5 @@ pub fn fill(k: Case, plane: &mut [i64], coverings: &mut [u8]) {
 
 // Case c of a group of planes: every side, levels from none to five, every kind of plane.
 pub fn case_at(c: usize) -> Case {
-    case_of(
-        side_of(c % 7),
-        c / 7 % 6,
-        c / 42 % 14,
-        mixed(c),
-    )
+    case_of(side_of(c % 7), c / 7 % 6, c / 42 % 14, mixed(c))
 }

@@ -1,45 +1,25 @@
 // Planes, of which the largest entries are kept or which are cut by a threshold, by the coder and by the plain second implementation.
 use case_planes::case_at;
 use case_planes::fill;
-use cases::answers::nothing;
 use cases::answers::outcome;
 use cases::answers::settled;
 use cases::inputs::Case;
 use cases::tally::Tally;
 use cases::tally::Verdict;
 use cases::tally::same_values;
-use plain_frame::outcome::Outcome;
 
-fn keep(k: Case, plane: &mut [i64], quota: u64) -> Outcome {
-    let n = k.n;
-    if plane.len() < n {
-        return nothing(1000);
-    }
-    outcome(keeping::keep(k.side, k.levels, &mut plane[..n], quota))
+// Both keep the largest of a plane, which stands in two slices.
+fn both_keep(k: Case, plane: &mut [i64], plane2: &mut [i64], quota: u64) -> Verdict {
+    let x = outcome(keeping::keep(k.side, k.levels, plane, quota));
+    let y = plain::cut::keep(k.side, k.levels, plane2, quota);
+    settled(x, y, same_values(plane, plane2))
 }
 
-fn keep_plainly(k: Case, plane: &mut [i64], quota: u64) -> Outcome {
-    let n = k.n;
-    if plane.len() < n {
-        return nothing(2000);
-    }
-    plain::cut::keep(k.side, k.levels, &mut plane[..n], quota)
-}
-
-fn threshold(k: Case, plane: &mut [i64], limit: u64) -> Outcome {
-    let n = k.n;
-    if plane.len() < n {
-        return nothing(1000);
-    }
-    outcome(keeping::threshold(k.side, k.levels, &mut plane[..n], limit))
-}
-
-fn threshold_plainly(k: Case, plane: &mut [i64], limit: u64) -> Outcome {
-    let n = k.n;
-    if plane.len() < n {
-        return nothing(2000);
-    }
-    plain::cut::cut(k.side, k.levels, &mut plane[..n], limit)
+// Both cut a plane, which stands in two slices.
+fn both_cut(k: Case, plane: &mut [i64], plane2: &mut [i64], limit: u64) -> Verdict {
+    let x = outcome(keeping::threshold(k.side, k.levels, plane, limit));
+    let y = plain::cut::cut(k.side, k.levels, plane2, limit);
+    settled(x, y, same_values(plane, plane2))
 }
 
 // How many tetrolet entries a plane has: all but those of its low-pass band.
@@ -77,26 +57,20 @@ fn limit(which: usize) -> u64 {
     }
 }
 
-// Both keep the largest of the same plane.
-fn kept_alike(k: Case, most: u64) -> Verdict {
+// Both work on the plane of a case: they keep its largest, or cut it.
+fn compare(k: Case, keeps: bool, number: u64) -> Verdict {
+    let n = k.n;
+    if 1024 < n {
+        return Verdict::Differs;
+    }
     let mut plane = [0i64; 1024];
     let mut coverings = [1u8; 512];
     fill(k, &mut plane, &mut coverings);
     let mut plane2 = plane;
-    let x = keep(k, &mut plane, most);
-    let y = keep_plainly(k, &mut plane2, most);
-    settled(x, y, same_values(&plane, &plane2))
-}
-
-// Both cut the same plane.
-fn cut_alike(k: Case, least: u64) -> Verdict {
-    let mut plane = [0i64; 1024];
-    let mut coverings = [1u8; 512];
-    fill(k, &mut plane, &mut coverings);
-    let mut plane2 = plane;
-    let x = threshold(k, &mut plane, least);
-    let y = threshold_plainly(k, &mut plane2, least);
-    settled(x, y, same_values(&plane, &plane2))
+    if keeps {
+        return both_keep(k, &mut plane[..n], &mut plane2[..n], number);
+    }
+    both_cut(k, &mut plane[..n], &mut plane2[..n], number)
 }
 
 // The planes of the group `restore`, each with every quota.
@@ -105,7 +79,7 @@ pub fn keep_group() -> Tally {
     let mut c: usize = 0;
     while c < 3528 {
         let k = cases::inputs::smaller(case_at(c / 6), c / 6);
-        let v = kept_alike(k, quota(k, c % 6));
+        let v = compare(k, true, quota(k, c % 6));
         t = cases::tally::counted(t, v);
         c += 1;
     }
@@ -117,7 +91,7 @@ pub fn threshold_group() -> Tally {
     let mut t = cases::tally::none();
     let mut c: usize = 0;
     while c < 3528 {
-        let v = cut_alike(case_at(c / 6), limit(c % 6));
+        let v = compare(case_at(c / 6), false, limit(c % 6));
         t = cases::tally::counted(t, v);
         c += 1;
     }

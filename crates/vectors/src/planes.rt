@@ -4,48 +4,12 @@ use case_planes::fill;
 use cases::inputs::Case;
 use cases::tally::Tally;
 use cases::tally::Verdict;
+use cases::tally::judged;
 use cases::tally::same_samples;
 use cases::tally::same_values;
 
-// The coder on the front parts of the slices. 1000 where they are too short, which the second implementation never gives.
-fn restore(
-    k: Case,
-    plane: &[i64],
-    coverings: &[u8],
-    numerators: &mut [i64],
-    samples: &mut [u16],
-    scratch: &mut [i64],
-) -> u32 {
-    let n = k.n;
-    let b = k.b;
-    if plane.len() < n {
-        return 1000;
-    }
-    if coverings.len() < b {
-        return 1000;
-    }
-    if numerators.len() < n {
-        return 1000;
-    }
-    if samples.len() < n {
-        return 1000;
-    }
-    if scratch.len() < n {
-        return 1000;
-    }
-    refusals::code(coder::restore(
-        k.side,
-        k.levels,
-        &plane[..n],
-        &coverings[..b],
-        &mut numerators[..n],
-        &mut samples[..n],
-        &mut scratch[..n],
-    ))
-}
-
-// The second implementation on the front parts of the slices.
-fn restore_plainly(
+// Both, into slices that hold the same before.
+fn both(
     words: &[u8],
     k: Case,
     plane: &[i64],
@@ -53,72 +17,74 @@ fn restore_plainly(
     numerators: &mut [i64],
     samples: &mut [u16],
     scratch: &mut [i64],
-) -> u32 {
-    let n = k.n;
-    let b = k.b;
-    if plane.len() < n {
-        return 2000;
-    }
-    if coverings.len() < b {
-        return 2000;
-    }
-    if numerators.len() < n {
-        return 2000;
-    }
-    if samples.len() < n {
-        return 2000;
-    }
-    if scratch.len() < n {
-        return 2000;
-    }
-    plain::pyramid::restore(
+    numerators2: &mut [i64],
+    samples2: &mut [u16],
+    scratch2: &mut [i64],
+) -> Verdict {
+    let a = refusals::code(coder::restore(
+        k.side,
+        k.levels,
+        plane,
+        coverings,
+        numerators,
+        samples,
+        scratch,
+    ));
+    let b = plain::pyramid::restore(
         words,
         k.side,
         k.levels,
-        &plane[..n],
-        &coverings[..b],
-        &mut scratch[..n],
-        &mut numerators[..n],
-        &mut samples[..n],
-    )
+        plane,
+        coverings,
+        scratch2,
+        numerators2,
+        samples2,
+    );
+    let n = same_values(numerators, numerators2);
+    let p = same_samples(samples, samples2);
+    let s = same_values(scratch, scratch2);
+    judged(a, b, n && p && s)
 }
 
-// Both, on slices that hold other values before.
+// Both, into slices of the plane's length that hold other values before.
 fn compare(words: &[u8], k: Case, plane: &[i64], coverings: &[u8]) -> Verdict {
+    let n = k.n;
+    if 1024 < n {
+        return Verdict::Differs;
+    }
     let mut numerators = [7i64; 1024];
     let mut samples = [9u16; 1024];
     let mut scratch = [-3i64; 1024];
     let mut numerators2 = [7i64; 1024];
     let mut samples2 = [9u16; 1024];
     let mut scratch2 = [-3i64; 1024];
-    let a = restore(
-        k,
-        plane,
-        coverings,
-        &mut numerators,
-        &mut samples,
-        &mut scratch,
-    );
-    let b = restore_plainly(
+    both(
         words,
         k,
         plane,
         coverings,
-        &mut numerators2,
-        &mut samples2,
-        &mut scratch2,
-    );
-    let n = same_values(&numerators, &numerators2);
-    let p = same_samples(&samples, &samples2);
-    let s = same_values(&scratch, &scratch2);
-    cases::tally::judged(a, b, n && p && s)
+        &mut numerators[..n],
+        &mut samples[..n],
+        &mut scratch[..n],
+        &mut numerators2[..n],
+        &mut samples2[..n],
+        &mut scratch2[..n],
+    )
 }
 
 fn one_plane(words: &[u8], k: Case) -> Verdict {
+    let n = k.n;
+    let b = k.b;
+    if 1024 < n {
+        return Verdict::Differs;
+    }
+    if 512 < b {
+        return Verdict::Differs;
+    }
     let mut plane = [0i64; 1024];
     let mut coverings = [1u8; 512];
     fill(k, &mut plane, &mut coverings);
-    compare(words, k, &plane, &coverings)
+    compare(words, k, &plane[..n], &coverings[..b])
 }
 
 pub fn group(words: &[u8]) -> Tally {

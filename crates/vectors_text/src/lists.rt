@@ -1,44 +1,31 @@
 // Usage lists, and the words of the coverings, by the coder and by the plain second implementation.
-use cases::answers::nothing;
 use cases::answers::outcome;
 use cases::answers::settled;
 use cases::inputs::Case;
 use cases::tally::Tally;
 use cases::tally::Verdict;
 use cases::tally::same_bytes;
-use plain_frame::outcome::Outcome;
 
-// The coder writes the usage of the first `b` coverings into the first `room` bytes of the buffer.
-fn usage(coverings: &[u8], b: usize, buffer: &mut [u8], room: usize) -> Outcome {
-    if coverings.len() < b {
-        return nothing(1000);
-    }
-    if buffer.len() < room {
-        return nothing(1000);
-    }
-    outcome(sheet::usage(&coverings[..b], &mut buffer[..room]))
-}
-
-// The second implementation does.
-fn usage_plainly(coverings: &[u8], b: usize, buffer: &mut [u8], room: usize) -> Outcome {
-    if coverings.len() < b {
-        return nothing(2000);
-    }
-    if buffer.len() < room {
-        return nothing(2000);
-    }
-    plain_text::writing::usage(&coverings[..b], &mut buffer[..room])
+// Both write the list, into buffers that hold the same bytes before.
+fn both_usage(coverings: &[u8], buffer: &mut [u8], buffer2: &mut [u8]) -> Verdict {
+    let x = outcome(sheet::usage(coverings, buffer));
+    let y = plain_text::writing::usage(coverings, buffer2);
+    settled(x, y, same_bytes(buffer, buffer2))
 }
 
 // Both, for the first b coverings of a case, into buffers of this room that hold other bytes before.
 fn listed_alike(k: Case, b: usize, room: usize) -> Verdict {
+    if 512 < b {
+        return Verdict::Differs;
+    }
+    if 4096 < room {
+        return Verdict::Differs;
+    }
     let mut coverings = [1u8; 512];
     cases::inputs::fill_coverings(k, &mut coverings);
     let mut buffer = [b'?'; 4096];
     let mut buffer2 = [b'?'; 4096];
-    let x = usage(&coverings, b, &mut buffer, room);
-    let y = usage_plainly(&coverings, b, &mut buffer2, room);
-    settled(x, y, same_bytes(&buffer, &buffer2))
+    both_usage(&coverings[..b], &mut buffer[..room], &mut buffer2[..room])
 }
 
 // Rooms from far too short to long.

@@ -1,12 +1,18 @@
 // Tetrolet sheets, written and read by the coder and by the plain second implementation.
+use case_planes::case_at;
+use case_planes::fill;
 use cases::answers::nothing;
 use cases::answers::outcome;
 use cases::answers::settled;
 use cases::inputs::Case;
+use cases::inputs::next;
+use cases::inputs::smaller;
+use cases::inputs::upper;
 use cases::safe::byte_at;
 use cases::safe::minus;
 use cases::safe::plus;
 use cases::safe::put_byte;
+use cases::safe::rest;
 use cases::tally::Tally;
 use cases::tally::Verdict;
 use cases::tally::same_bytes;
@@ -14,70 +20,55 @@ use cases::tally::same_values;
 use plain_frame::outcome::Outcome;
 use sheet::Reading;
 
-// The coder writes into the first `room` bytes of the buffer.
-fn write(k: Case, plane: &[i64], coverings: &[u8], buffer: &mut [u8], room: usize) -> Outcome {
+// Writes the sheet of a case by the coder; gives its length, 0 where it is refused.
+fn put_sheet(k: Case, text: &mut [u8]) -> usize {
     let n = k.n;
     let b = k.b;
-    if plane.len() < n {
-        return nothing(1000);
+    if 1024 < n {
+        return 0;
     }
-    if coverings.len() < b {
-        return nothing(1000);
+    if 512 < b {
+        return 0;
     }
-    if buffer.len() < room {
-        return nothing(1000);
-    }
-    outcome(sheet::write(
-        k.side,
-        k.levels,
-        &plane[..n],
-        &coverings[..b],
-        &mut buffer[..room],
-    ))
+    let mut plane = [0i64; 1024];
+    let mut coverings = [1u8; 512];
+    fill(k, &mut plane, &mut coverings);
+    let r = outcome(sheet::write(k.side, k.levels, &plane[..n], &coverings[..b], text));
+    r.a
 }
 
-// The second implementation does.
-fn write_plainly(
+fn sheet_length(k: Case) -> usize {
+    let mut text = [0u8; 32768];
+    put_sheet(k, &mut text)
+}
+
+// Both write, into buffers that hold the same bytes before.
+fn both_write(
     k: Case,
     plane: &[i64],
     coverings: &[u8],
     buffer: &mut [u8],
-    room: usize,
-) -> Outcome {
-    let n = k.n;
-    let b = k.b;
-    if plane.len() < n {
-        return nothing(2000);
-    }
-    if coverings.len() < b {
-        return nothing(2000);
-    }
-    if buffer.len() < room {
-        return nothing(2000);
-    }
-    plain_text::writing::write(
-        k.side,
-        k.levels,
-        &plane[..n],
-        &coverings[..b],
-        &mut buffer[..room],
-    )
-}
-
-// The length of the sheet of a case, 0 where it is refused.
-fn sheet_length(k: Case, plane: &[i64], coverings: &[u8]) -> usize {
-    let mut buffer = [0u8; 32768];
-    let r = write(k, plane, coverings, &mut buffer, 32768);
-    r.a
+    buffer2: &mut [u8],
+) -> Verdict {
+    let x = outcome(sheet::write(k.side, k.levels, plane, coverings, buffer));
+    let y = plain_text::writing::write(k.side, k.levels, plane, coverings, buffer2);
+    settled(x, y, same_bytes(buffer, buffer2))
 }
 
 // Both, into buffers of this room that hold other bytes before.
 fn compare_writing(k: Case, plane: &[i64], coverings: &[u8], room: usize) -> Verdict {
+    if 32768 < room {
+        return Verdict::Differs;
+    }
     let mut buffer = [b'?'; 32768];
     let mut buffer2 = [b'?'; 32768];
-    let x = write(k, plane, coverings, &mut buffer, room);
-    let y = write_plainly(k, plane, coverings, &mut buffer2, room);
-    settled(x, y, same_bytes(&buffer, &buffer2))
+    both_write(
+        k,
+        plane,
+        coverings,
+        &mut buffer[..room],
+        &mut buffer2[..room],
+    )
 }
 
 // A long buffer, one that is just long enough, one of a byte less, and an empty one.
@@ -90,12 +81,19 @@ fn room_of(length: usize, which: usize) -> usize {
     }
 }
 
-fn written_alike(k: Case, which: usize) -> Verdict {
+fn written_alike(k: Case, room: usize) -> Verdict {
+    let n = k.n;
+    let b = k.b;
+    if 1024 < n {
+        return Verdict::Differs;
+    }
+    if 512 < b {
+        return Verdict::Differs;
+    }
     let mut plane = [0i64; 1024];
     let mut coverings = [1u8; 512];
-    case_planes::fill(k, &mut plane, &mut coverings);
-    let length = sheet_length(k, &plane, &coverings);
-    compare_writing(k, &plane, &coverings, room_of(length, which))
+    fill(k, &mut plane, &mut coverings);
+    compare_writing(k, &plane[..n], &coverings[..b], room)
 }
 
 // The planes of the group `restore`, each with every room.
@@ -103,7 +101,8 @@ pub fn write_group() -> Tally {
     let mut t = cases::tally::none();
     let mut c: usize = 0;
     while c < 2352 {
-        let v = written_alike(case_planes::case_at(c / 4), c % 4);
+        let k = case_at(c / 4);
+        let v = written_alike(k, room_of(sheet_length(k), c % 4));
         t = cases::tally::counted(t, v);
         c += 1;
     }
@@ -122,55 +121,42 @@ fn told(r: Reading) -> Outcome {
     }
 }
 
-// The coder reads the first `length` bytes of a text.
-fn read(k: Case, text: &[u8], length: usize, plane: &mut [i64], coverings: &mut [u8]) -> Outcome {
-    let n = k.n;
-    let b = k.b;
-    if text.len() < length {
-        return nothing(1000);
-    }
-    if plane.len() < n {
-        return nothing(1000);
-    }
-    if coverings.len() < b {
-        return nothing(1000);
-    }
-    told(sheet::read(&text[..length], &mut plane[..n], &mut coverings[..b]))
-}
-
-// The second implementation does.
-fn read_plainly(
-    k: Case,
+// Both read the same text, into slices that hold the same before.
+fn both_read(
     text: &[u8],
-    length: usize,
     plane: &mut [i64],
     coverings: &mut [u8],
-) -> Outcome {
-    let n = k.n;
-    let b = k.b;
-    if text.len() < length {
-        return nothing(2000);
-    }
-    if plane.len() < n {
-        return nothing(2000);
-    }
-    if coverings.len() < b {
-        return nothing(2000);
-    }
-    plain_text::reading::read(&text[..length], &mut plane[..n], &mut coverings[..b])
+    plane2: &mut [i64],
+    coverings2: &mut [u8],
+) -> Verdict {
+    let x = told(sheet::read(text, plane, coverings));
+    let y = plain_text::reading::read(text, plane2, coverings2);
+    let p = same_values(plane, plane2);
+    let c = same_bytes(coverings, coverings2);
+    settled(x, y, p && c)
 }
 
-// Both read the same text, into slices that hold other values before.
-fn compare_reading(k: Case, text: &[u8], length: usize) -> Verdict {
+// Both, into slices of the case's lengths that hold other values before.
+fn compare_reading(k: Case, text: &[u8]) -> Verdict {
+    let n = k.n;
+    let b = k.b;
+    if 1024 < n {
+        return Verdict::Differs;
+    }
+    if 512 < b {
+        return Verdict::Differs;
+    }
     let mut plane = [7i64; 1024];
     let mut coverings = [9u8; 512];
     let mut plane2 = [7i64; 1024];
     let mut coverings2 = [9u8; 512];
-    let x = read(k, text, length, &mut plane, &mut coverings);
-    let y = read_plainly(k, text, length, &mut plane2, &mut coverings2);
-    let p = same_values(&plane, &plane2);
-    let c = same_bytes(&coverings, &coverings2);
-    settled(x, y, p && c)
+    both_read(
+        text,
+        &mut plane[..n],
+        &mut coverings[..b],
+        &mut plane2[..n],
+        &mut coverings2[..b],
+    )
 }
 
 // Puts the bytes from place `at` on one place further back.
@@ -209,7 +195,7 @@ fn other_byte(random: usize) -> usize {
 // Damages a text, and gives its length after: way 0 leaves it whole, 1 replaces a byte, 2 takes one out, 3 puts one in, 4 takes off the end, 5
 // adds a byte at the end.
 fn damage(text: &mut [u8], length: usize, way: usize, random: usize, byte: usize) -> usize {
-    let at = cases::safe::rest(random, length);
+    let at = rest(random, length);
     match way {
         1 => {
             put_byte(text, at, byte);
@@ -235,14 +221,14 @@ fn damage(text: &mut [u8], length: usize, way: usize, random: usize, byte: usize
 
 // The sheet of a case, written by the coder, and then damaged; refused cases give an empty text.
 fn read_alike(k: Case, way: usize, random: usize) -> Verdict {
-    let mut plane = [0i64; 1024];
-    let mut coverings = [1u8; 512];
-    case_planes::fill(k, &mut plane, &mut coverings);
     let mut text = [0u8; 32768];
-    let r = write(k, &plane, &coverings, &mut text, 32000);
-    let byte = other_byte(cases::inputs::upper(cases::inputs::next(random)));
-    let length = damage(&mut text, r.a, way, cases::inputs::upper(random), byte);
-    compare_reading(k, &text, length)
+    let length = put_sheet(k, &mut text);
+    let byte = other_byte(upper(next(random)));
+    let end = damage(&mut text, length, way, upper(random), byte);
+    if 32768 < end {
+        return Verdict::Differs;
+    }
+    compare_reading(k, &text[..end])
 }
 
 // The planes of the group `restore`, each with every damage.
@@ -251,12 +237,8 @@ pub fn read_group() -> Tally {
     let mut x: usize = 1;
     let mut c: usize = 0;
     while c < 3528 {
-        x = cases::inputs::next(x);
-        let v = read_alike(
-            cases::inputs::smaller(case_planes::case_at(c / 6), x / 65536),
-            c % 6,
-            x,
-        );
+        x = next(x);
+        let v = read_alike(smaller(case_at(c / 6), x / 65536), c % 6, x);
         t = cases::tally::counted(t, v);
         c += 1;
     }

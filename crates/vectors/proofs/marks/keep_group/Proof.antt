@@ -26,8 +26,8 @@ smaller-requires c κs = search needs
 quota-requires : tie.Need-quota-requires Inv-loop μ-loop
 quota-requires c κs = search needs
 
-kept-alike-requires : tie.Need-kept-alike-requires Inv-loop μ-loop
-kept-alike-requires c κs = search needs
+compare-requires : tie.Need-compare-requires Inv-loop μ-loop
+compare-requires c κs = search needs
 
 counted-requires : tie.Need-counted-requires Inv-loop μ-loop
 counted-requires c κs = search needs
@@ -55,7 +55,7 @@ keep-group-spec =
     case-at-requires
     smaller-requires
     quota-requires
-    kept-alike-requires
+    compare-requires
     counted-requires
     add-c
     loop-less

@@ -23,8 +23,8 @@ case-at-requires c κs = search needs
 limit-requires : tie.Need-limit-requires Inv-loop μ-loop
 limit-requires c κs = search needs
 
-cut-alike-requires : tie.Need-cut-alike-requires Inv-loop μ-loop
-cut-alike-requires c κs = search needs
+compare-requires : tie.Need-compare-requires Inv-loop μ-loop
+compare-requires c κs = search needs
 
 counted-requires : tie.Need-counted-requires Inv-loop μ-loop
 counted-requires c κs = search needs
@@ -51,7 +51,7 @@ threshold-group-spec =
     loop-holds
     case-at-requires
     limit-requires
-    cut-alike-requires
+    compare-requires
     counted-requires
     add-c
     loop-less

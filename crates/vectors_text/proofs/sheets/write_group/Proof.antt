@@ -1,30 +1,35 @@
 -- `vectors_text::sheets::write_group` is safe and ends. Assumes nothing.
 use Prim.Native.Nat.{_-_}
-use Prim.Native.Nat.{_≤_}
 use borrow.Author.Needs.{needs}
 use Rattle.vectors_text.proofs.sheets.write_group.Statement.{statement}
 use Rattle.vectors_text.proofs.sheets.write_group.Tie as tie
 
 abbrev Inv-loop : tie.InvT-loop
-Inv-loop t₀ c₀ t c = c ≤ 2352
+Inv-loop t₀ c₀ t c = Unit
 
 abbrev μ-loop : tie.MeasureT-loop
 μ-loop t₀ c₀ t c = 2352 - c
 
 none-requires : tie.Need-none-requires Inv-loop μ-loop
-none-requires c κs = search needs
+none-requires c κs = tt
 
 loop-holds : tie.Need-loop-holds Inv-loop μ-loop
 loop-holds c = search needs
 
 case-at-requires : tie.Need-case-at-requires Inv-loop μ-loop
-case-at-requires c κs = search needs
+case-at-requires c κs = tt
+
+sheet-length-requires : tie.Need-sheet-length-requires Inv-loop μ-loop
+sheet-length-requires c κs = tt
+
+room-of-requires : tie.Need-room-of-requires Inv-loop μ-loop
+room-of-requires c κs = tt
 
 written-alike-requires : tie.Need-written-alike-requires Inv-loop μ-loop
-written-alike-requires c κs = search needs
+written-alike-requires c κs = tt
 
 counted-requires : tie.Need-counted-requires Inv-loop μ-loop
-counted-requires c κs = search needs
+counted-requires c κs = tt
 
 add-c : tie.Need-add-c Inv-loop μ-loop
 add-c c = search needs
@@ -47,6 +52,8 @@ write-group-spec =
     none-requires
     loop-holds
     case-at-requires
+    sheet-length-requires
+    room-of-requires
     written-alike-requires
     counted-requires
     add-c

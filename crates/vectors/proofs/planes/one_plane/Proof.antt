@@ -1,0 +1,56 @@
+-- `vectors::planes::one_plane` is safe and ends. Assumes nothing.
+use mathlib.Core.Path.{sym}
+use native.Mathlib.Omega.{arith}
+use borrow.Author.Needs.{needs}
+use lib.Seq.{length-take-le}
+use Rattle.vectors.proofs.planes.one_plane.Statement.{statement}
+use Rattle.vectors.proofs.planes.one_plane.Tie as tie
+
+returns : tie.Need-returns
+returns c = search needs
+
+returns-2 : tie.Need-returns-2
+returns-2 c = search needs
+
+slice-aggregate-fill : tie.Need-slice-aggregate-fill
+slice-aggregate-fill c = search needs
+
+slice-aggregate-fill-2 : tie.Need-slice-aggregate-fill-2
+slice-aggregate-fill-2 c = search needs
+
+fill-requires : tie.Need-fill-requires
+fill-requires c κs = search needs
+
+array-share-prefix-plane : tie.Need-array-share-prefix-plane
+array-share-prefix-plane c = search needs
+
+slice-aggregate-compare : tie.Need-slice-aggregate-compare
+slice-aggregate-compare c = sym (length-take-le _ _ (omega arith))
+
+array-share-prefix-coverings : tie.Need-array-share-prefix-coverings
+array-share-prefix-coverings c = search needs
+
+slice-aggregate-compare-2 : tie.Need-slice-aggregate-compare-2
+slice-aggregate-compare-2 c = sym (length-take-le _ _ (omega arith))
+
+compare-requires : tie.Need-compare-requires
+compare-requires c κs = search needs
+
+returns-3 : tie.Need-returns-3
+returns-3 c = search needs
+
+pub one-plane-spec : {M : Type 1} → statement M
+one-plane-spec =
+    tie.close
+    (tie.spec
+    returns
+    returns-2
+    slice-aggregate-fill
+    slice-aggregate-fill-2
+    fill-requires
+    array-share-prefix-plane
+    slice-aggregate-compare
+    array-share-prefix-coverings
+    slice-aggregate-compare-2
+    compare-requires
+    returns-3)
