@@ -92,7 +92,7 @@ fn read_on(s: &[u8], at: usize, line: LineOfFive, next: usize) -> LineOfFive
 }
 
 // Whether two tests hold.
-fn both(a: bool, b: bool) -> bool
+pub fn both(a: bool, b: bool) -> bool
     ensures { λ r. ⌜ r ≡ (a && b) ⌝ }
 {
     if a {

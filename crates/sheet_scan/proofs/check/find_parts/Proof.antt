@@ -42,16 +42,16 @@ s3 : (k : K3) → SkipRead N2 (S (k .before .before .before .before .before .bef
 s3 k = skip-at N2 (S (k .before .before .before .before .before .before .before .before .before)) (k .before .before .before .before .before .before .h .given .0 .0 .next) (k .before .t .given .0 .0) (sym (k .before .before .before .skip-names2 .ensures) ∙ k .before .t .given .1)
 
 abbrev K4 : Type 0
-K4 = tie.After-pass-fours
+K4 = tie.After-survey-blocks
 
-s4 : (k : K4) → RowsRead four (S (k .before .before .before .before .before .before .before .before .before .before)) (k .before .before .t .given .0 .0) (k .pass-fours .result)
-s4 k = rows-at four (S (k .before .before .before .before .before .before .before .before .before .before)) (k .before .before .t .given .0 .0) (k .pass-fours .result) (k .pass-fours .ensures)
+s4 : (k : K4) → RowsRead four (S (k .before .before .before .before .before .before .before .before .before .before)) (k .before .before .t .given .0 .0) (k .survey-blocks .result .past)
+s4 k = rows-at four (S (k .before .before .before .before .before .before .before .before .before .before)) (k .before .before .t .given .0 .0) (k .survey-blocks .result .past) (k .survey-blocks .ensures .0)
 
 abbrev K5 : Type 0
 K5 = tie.After-known-told4
 
-s5 : (k : K5) → SkipRead N3 (S (k .before .before .before .before .before .before .before .before .before .before .before .before .before .before .before)) (k .before .before .before .before .before .pass-fours .result) (k .before .v .given .0 .0)
-s5 k = skip-at N3 (S (k .before .before .before .before .before .before .before .before .before .before .before .before .before .before .before)) (k .before .before .before .before .before .pass-fours .result) (k .before .v .given .0 .0) (sym (k .before .before .before .skip-names3 .ensures) ∙ k .before .v .given .1)
+s5 : (k : K5) → SkipRead N3 (S (k .before .before .before .before .before .before .before .before .before .before .before .before .before .before .before)) (k .before .before .before .before .before .survey-blocks .result .past) (k .before .v .given .0 .0)
+s5 k = skip-at N3 (S (k .before .before .before .before .before .before .before .before .before .before .before .before .before .before .before)) (k .before .before .before .before .before .survey-blocks .result .past) (k .before .v .given .0 .0) (sym (k .before .before .before .skip-names3 .ensures) ∙ k .before .v .given .1)
 
 skip-names-requires : tie.Need-skip-names-requires
 skip-names-requires c κs = search needs
@@ -103,8 +103,8 @@ returns-3 c = (
   laws,
 )
 
-pass-fours-requires : tie.Need-pass-fours-requires
-pass-fours-requires c κs = s3 c .within
+survey-blocks-requires : tie.Need-survey-blocks-requires
+survey-blocks-requires c κs = s3 c .within
 
 slice-aggregate-skip-names-3 : tie.Need-slice-aggregate-skip-names-3
 slice-aggregate-skip-names-3 c = search needs
@@ -124,7 +124,7 @@ returns-4 c = (
       let i = h .before in
       let j = i .before .before .before .before .before in
       let k = j .before .before .before .before in
-      let u = h .pass-fours .result in
+      let u = h .survey-blocks .result .past in
       sym (no-4 (S k) (k .before .p .given .0 .0) (s1 k) (j .before .h .given .0 .0 .next) (s2 j) (i .before .t .given .0 .0) u (s3 i) (s4 h)
       (skip-none N3 (S k) u (sym (c .before .before .skip-names3 .ensures) ∙ c .enum-told4 .given .1))),
   laws,
@@ -143,7 +143,7 @@ ends c =
     let i = h .before in
     let j = i .before .before .before .before .before in
     let k = j .before .before .before .before in
-    at-end (S k) (k .before .p .given .0 .0) (s1 k) (j .before .h .given .0 .0 .next) (s2 j) (i .before .t .given .0 .0) (h .pass-fours .result) (s3 i) (s4 h)
+    at-end (S k) (k .before .p .given .0 .0) (s1 k) (j .before .h .given .0 .0 .next) (s2 j) (i .before .t .given .0 .0) (h .survey-blocks .result .past) (s3 i) (s4 h)
     (g .before .v .given .0 .0) (c .survey-entries .result .past) (s5 g) (s6 c)
 
 returns-5 : tie.Need-returns-5
@@ -161,7 +161,7 @@ returns-6 c =
     let f = j .before .h .given .0 .0 in
     let e = c .if1 .left in
     let y = two-line (S k) p f (sym (j .before .before .before .read-two .ensures) ∙ j .before .h .given .1) in (
-      laid (S k) p (i .before .t .given .0 .0) (h .pass-fours .result) (g .before .v .given .0 .0) (x .survey-entries .result .past) f (x .survey-entries .result .rising) (x .survey-entries .result .fitting) (s1 k) y (s3 i) (s4 h) (s5 g) (s6 x) (sym (ends x) ∙ eq-eqb _ _ e) (omega (arith, e)) (x .survey-entries .ensures .1),
+      laid (S k) p (i .before .t .given .0 .0) (h .survey-blocks .result .past) (g .before .v .given .0 .0) (x .survey-entries .result .past) f (h .survey-blocks .result .ordered) (h .survey-blocks .result .numbered) (x .survey-entries .result .rising) (x .survey-entries .result .fitting) (s1 k) y (s3 i) (s4 h) (s5 g) (s6 x) (sym (ends x) ∙ eq-eqb _ _ e) (omega (arith, e)) (h .survey-blocks .ensures .1) (x .survey-entries .ensures .1),
       laws,
     )
 
@@ -183,7 +183,7 @@ find-parts-spec =
     enum-known-t
     enum-told-3
     returns-3
-    pass-fours-requires
+    survey-blocks-requires
     slice-aggregate-skip-names-3
     skip-names-requires-3
     enum-known-v
