@@ -92,13 +92,13 @@ pub fn two_at(s: &[u8], at: usize) -> LineOfTwo
     two(over(s, at))
 }
 
-// Lines of four values at a place of a plain text, and the line of names that follows them. Two wrong answers that the contract rules out: names
-// looked for before the lines; a good answer where a line of other values stands between.
-pub fn fours_then_names(s: &[u8], at: usize, line: &[u8]) -> Skip
+// The place past the lines of four values, at a place of a plain text. Two wrong answers that the contract rules out: the place before the last of
+// them; the place past a line of five that follows.
+pub fn fours_end(s: &[u8], at: usize) -> usize
     requires { ⌜ at ≤ length (now s) ⌝ }
-    ensures { λ a. ⌜ a ≡ skipAt (now (s .entry)) (foursAt (now (s .entry)) at) (now (line .entry)) ⌝ }
+    ensures { λ a. ⌜ a ≡ foursAt (now (s .entry)) at ⌝ }
 {
-    names(fours(over(s, at)), line)
+    place(fours(over(s, at)))
 }
 
 // The place past the lines of four values and a signed one, at a place of a plain text. Two wrong answers that the contract rules out: the place

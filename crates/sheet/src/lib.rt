@@ -81,13 +81,13 @@ pub fn read(text: &[u8], plane: &mut [i64], coverings: &mut [u8]) -> Reading
     }
     let b = l.blocks;
     let e = l.entries;
-    if !sheet_scan::tiles::in_order(text, b, n, r) {
+    if !l.ordered {
         return Reading::Refused(Refusal::Sequence);
     }
     if !l.rising {
         return Reading::Refused(Refusal::Sequence);
     }
-    if !sheet_scan::tiles::numbered(text, b, blocks) {
+    if !l.numbered {
         return Reading::Refused(Refusal::Covering);
     }
     if !l.fitting {

@@ -11,6 +11,7 @@ use lib.IntN.{ℤ, pos, natAbs}
 use Rattle.text.specs.Text.{limit}
 use lib.ListN.{getD, length}
 use Rattle.integers.specs.Lists.{every}
+use Rattle.coverings.specs.Entry.{isNumber}
 use Rattle.text.specs.Lines.{cellAt}
 use Rattle.pyramid.specs.Plane.{Image}
 use Rattle.pyramid.specs.Places.{Place, BlockPlace, at}
@@ -165,26 +166,50 @@ looked-value p r rs l v e h g z b = (g ∙ sym (ap (valueHere p) e ∙ rw h), sy
 
 -- ---- blocks
 
-pub covers-none : (b : BlockPlace) (bs : List BlockPlace) (l : List (List ℤ)) → l ≡ [] → isSome (coversOf (b ∷ bs) l) ≡ false
+covers-cons : (b : BlockPlace) (bs : List BlockPlace) (r : List ℤ) (rs l : List (List ℤ)) → l ≡ r ∷ rs → isSome (coversOf (b ∷ bs) l) ≡ (isBlock b r && isSome (coversOf bs rs))
+unfolding coversOf
+covers-cons b bs r rs l e = ap (λ l. isSome (coversOf (b ∷ bs) l)) e ∙ go (isBlock b r)
+  where
+    go : (x : Bool) → isSome (cond x (before (cellAt r 3) (coversOf bs rs)) none) ≡ (x && isSome (coversOf bs rs))
+    go true = some-before (cellAt r 3) (coversOf bs rs)
+    go false = refl
+
+covers-none : (b : BlockPlace) (bs : List BlockPlace) (l : List (List ℤ)) → l ≡ [] → isSome (coversOf (b ∷ bs) l) ≡ false
 unfolding coversOf
 covers-none b bs l e = ap (λ l. isSome (coversOf (b ∷ bs) l)) e
 
-pub covers-other : (b : BlockPlace) (bs : List BlockPlace) (r : List ℤ) (rs l : List (List ℤ)) → l ≡ r ∷ rs → isBlock b r ≡ false → isSome (coversOf (b ∷ bs) l) ≡ false
-unfolding coversOf
-covers-other b bs r rs l e h = ap (λ l. isSome (coversOf (b ∷ bs) l)) e ∙ ap (λ (x : Bool). isSome (cond x (before (cellAt r 3) (coversOf bs rs)) none)) h
-
-pub covers-next : (b : BlockPlace) (bs : List BlockPlace) (r : List ℤ) (rs l : List (List ℤ)) → l ≡ r ∷ rs → isBlock b r ≡ true → isSome (coversOf (b ∷ bs) l) ≡ isSome (coversOf bs rs)
-unfolding coversOf
-covers-next b bs r rs l e h =
-    ap (λ l. isSome (coversOf (b ∷ bs) l)) e ∙ ap (λ (x : Bool). isSome (cond x (before (cellAt r 3) (coversOf bs rs)) none)) h ∙ some-before (cellAt r 3) (coversOf bs rs)
-
-pub covers-end : (l : List (List ℤ)) → l ≡ [] → isSome (coversOf [] l) ≡ true
+covers-end : (l : List (List ℤ)) → l ≡ [] → isSome (coversOf [] l) ≡ true
 unfolding coversOf
 covers-end l e = ap (λ l. isSome (coversOf [] l)) e
 
-pub covers-over : (r : List ℤ) (rs l : List (List ℤ)) → l ≡ r ∷ rs → isSome (coversOf [] l) ≡ false
+covers-over : (r : List ℤ) (rs l : List (List ℤ)) → l ≡ r ∷ rs → isSome (coversOf [] l) ≡ false
 unfolding coversOf
 covers-over r rs l e = ap (λ l. isSome (coversOf [] l)) e
+
+-- a pass along the blocks: what was found so far, and what is left
+pub covers-again : (b : BlockPlace) (bs ps : List BlockPlace) (r : List ℤ) (rs l : List (List ℤ)) (a x c : Bool) → ps ≡ b ∷ bs → l ≡ r ∷ rs → c ≡ (a && x) → x ≡ isBlock b r
+    → (c && isSome (coversOf bs rs)) ≡ (a && isSome (coversOf ps l))
+covers-again b bs ps r rs l a x c e f g h =
+    (λ i. g i && isSome (coversOf bs rs)) ∙ and-assoc a x (isSome (coversOf bs rs))
+    ∙ ap (λ (y : Bool). a && y) ((λ i. h i && isSome (coversOf bs rs)) ∙ sym (covers-cons b bs r rs l f) ∙ sym (ap (λ q. isSome (coversOf q l)) e))
+
+pub covers-short : (a : Bool) (b : BlockPlace) (bs ps : List BlockPlace) (l : List (List ℤ)) → ps ≡ b ∷ bs → l ≡ [] → false ≡ (a && isSome (coversOf ps l))
+covers-short a b bs ps l e f = sym (ap (λ (x : Bool). a && x) (ap (λ q. isSome (coversOf q l)) e ∙ covers-none b bs l f) ∙ and-false a)
+
+pub covers-done : (a : Bool) (ps : List BlockPlace) (l : List (List ℤ)) → ps ≡ [] → l ≡ [] → a ≡ (a && isSome (coversOf ps l))
+covers-done a ps l e f = sym (ap (λ (x : Bool). a && x) (ap (λ q. isSome (coversOf q l)) e ∙ covers-end l f) ∙ and-true a)
+
+pub covers-left : (a : Bool) (ps : List BlockPlace) (r : List ℤ) (rs l : List (List ℤ)) → ps ≡ [] → l ≡ r ∷ rs → false ≡ (a && isSome (coversOf ps l))
+covers-left a ps r rs l e f = sym (ap (λ (x : Bool). a && x) (ap (λ q. isSome (coversOf q l)) e ∙ covers-over r rs l f) ∙ and-false a)
+
+pub numbers-again : (r : List ℤ) (rs l : List (List ℤ)) (n : ℕ) (a x c : Bool) → l ≡ r ∷ rs → n ≡ cellAt r 3 → c ≡ (a && x) → x ≡ isNumber n
+    → (c && every isNumber (coversAlong rs)) ≡ (a && every isNumber (coversAlong l))
+numbers-again r rs l n a x c e f g h =
+    (λ i. g i && every isNumber (coversAlong rs)) ∙ and-assoc a x (every isNumber (coversAlong rs))
+    ∙ ap (λ (y : Bool). a && y) ((λ i. (h ∙ ap isNumber f) i && every isNumber (coversAlong rs)) ∙ sym (ap (λ q. every isNumber (coversAlong q)) e))
+
+pub numbers-done : (a : Bool) (l : List (List ℤ)) → l ≡ [] → a ≡ (a && every isNumber (coversAlong l))
+numbers-done a l e = sym (ap (λ q. a && every isNumber (coversAlong q)) e ∙ and-true a)
 
 -- lines that are the blocks have their coverings, as many as there are blocks
 pub covers-said : (bs : List BlockPlace) (rs : List (List ℤ)) → isSome (coversOf bs rs) ≡ true → (listIn (coversOf bs rs) ≡ coversAlong rs) × (length rs ≡ length bs)

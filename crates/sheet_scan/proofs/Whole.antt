@@ -17,7 +17,7 @@ use Rattle.pyramid.specs.Sides.{isSide, isDepth}
 use Rattle.sheet_text.specs.Forms.{sheetForm}
 use Rattle.text.specs.declared.lines.Two.{Two}
 use Rattle.sheet_text.specs.Sheet.{isSome, listIn, rowsOf, sideIn, levelsIn}
-use Rattle.sheet_scan.specs.Parts.{Surveyed, LaidOut}
+use Rattle.sheet_scan.specs.Parts.{Tiled, Surveyed, LaidOut}
 
 abbrev pub N1 : List ℕ
 N1 = bytes "side levels\n"
@@ -75,11 +75,11 @@ rows-are : (s : List ℕ) (a : List (List (List ℤ))) (w : ℕ) → length s �
 unfolding whole rowsOf
 rows-are s a w l e = ap (λ o. listIn (whole o)) (e ∙ ap (got a) (drop-of-length-le s l))
 
-pub laid : (s : List ℕ) (p t u v w : ℕ) (f : Two) (a b : Bool) → SkipRead N1 s 0 p → (x : TwoLine s p f) → SkipRead N2 s (f .next) t → RowsRead four s t u → SkipRead N3 s u v → RowsRead five s v w
-    → isSome (parse sheetForm s) ≡ true → length s ≤ w → Surveyed s v (f .first) (f .second) a b
-    → LaidOut s (record { side = f .first; levels = f .second; blocks = t; entries = v; rising = a; fitting = b })
+pub laid : (s : List ℕ) (p t u v w : ℕ) (f : Two) (o m a b : Bool) → SkipRead N1 s 0 p → (x : TwoLine s p f) → SkipRead N2 s (f .next) t → RowsRead four s t u → SkipRead N3 s u v → RowsRead five s v w
+    → isSome (parse sheetForm s) ≡ true → length s ≤ w → Tiled s t (f .first) (f .second) o m → Surveyed s v (f .first) (f .second) a b
+    → LaidOut s (record { side = f .first; levels = f .second; blocks = t; entries = v; ordered = o; numbered = m; rising = a; fitting = b })
 unfolding sections rows times
-laid s p t u v w f a b h₁ x h₃ h₄ h₅ h₆ k l m =
+laid s p t u v w f o m a b h₁ x h₃ h₄ h₅ h₆ k l y z =
     let e = rows-are s ((x .cells ∷ []) ∷ h₄ .lines ∷ h₆ .lines ∷ []) w l (rw (h₁ .read, x .read, h₃ .read, h₄ .read, h₅ .read, h₆ .read)) in
     record {
       keeps = k;
@@ -87,11 +87,12 @@ laid s p t u v w f a b h₁ x h₃ h₄ h₅ h₆ k l m =
       levels = ap levelsIn e ∙ sym (x .second);
       blocks = ap (λ r. getD r 1 []) e ∙ sym (lines-read four s t u h₄);
       entries = ap (λ r. getD r 2 []) e ∙ sym (lines-read five s v w h₆);
-      surveyed = m;
+      tiled = y;
+      surveyed = z;
     }
 
 -- of a side or of levels that are not good, nothing is found
-clash : false ≡ true → ⊥
+pub clash : false ≡ true → ⊥
 clash e = let z : _≡_ {A = ℕ} 0 1 = cc in omega arith
 
 module _ (s : List ℕ) (at n R : ℕ) (a b : Bool) where
@@ -100,3 +101,9 @@ module _ (s : List ℕ) (at n R : ℕ) (a b : Bool) where
 
   pub no-depth : isDepth R n n ≡ false → Surveyed s at n R a b
   no-depth e = record { rising = λ x y. absurd (clash (sym e ∙ y)); fitting = λ x y. absurd (clash (sym e ∙ y)) }
+
+  pub no-side-tiled : isSide n ≡ false → Tiled s at n R a b
+  no-side-tiled e = record { ordered = λ x y. absurd (clash (sym e ∙ x)); numbered = λ x y o. absurd (clash (sym e ∙ x)) }
+
+  pub no-depth-tiled : isDepth R n n ≡ false → Tiled s at n R a b
+  no-depth-tiled e = record { ordered = λ x y. absurd (clash (sym e ∙ y)); numbered = λ x y o. absurd (clash (sym e ∙ y)) }

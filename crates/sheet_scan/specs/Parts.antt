@@ -4,6 +4,8 @@ use mathlib.Core.Bool.{Bool, true, false}
 use mathlib.Core.List.{List, []}
 use Prim.Native.Nat.{ℕ}
 use lib.ListN.{getD}
+use Rattle.integers.specs.Lists.{every}
+use Rattle.coverings.specs.Entry.{isNumber}
 use Rattle.text.specs.Text.{parse}
 use Rattle.text.specs.Lines.{linesAt}
 use Rattle.text.proofs.Many.{four, five}
@@ -11,11 +13,16 @@ use Rattle.sheet_scan.specs.declared.check.Layout.{Layout}
 use Rattle.sheet_scan.specs.declared.check.Found.{Found}
 use Rattle.sheet_scan.specs.declared.check.Found.the-variants.{At, Bad}
 use Rattle.sheet_text.specs.Forms.{sheetForm}
-use Rattle.pyramid.specs.Places.{planePlaces}
+use Rattle.pyramid.specs.Places.{planePlaces, blockPlaces}
 use Rattle.pyramid.specs.Sides.{isSide, isDepth}
-use Rattle.sheet_text.specs.Rows.{valuesOf}
-use Rattle.sheet_scan.specs.Scan.{fitAlong}
+use Rattle.sheet_text.specs.Rows.{coversOf, valuesOf}
+use Rattle.sheet_scan.specs.Scan.{fitAlong, coversAlong}
 use Rattle.sheet_text.specs.Sheet.{isSome, rowsOf, sideIn, levelsIn}
+
+-- What is found of the lines of blocks, where the side n and the levels R are good.
+pub record Tiled (t : List ℕ) (at n R : ℕ) (o m : Bool) : Type 0 where
+  pub ordered : isSide n ≡ true → isDepth R n n ≡ true → o ≡ isSome (coversOf (blockPlaces R n n) (linesAt four t at))
+  pub numbered : isSide n ≡ true → isDepth R n n ≡ true → o ≡ true → m ≡ every isNumber (coversAlong (linesAt four t at))
 
 -- What is found of the lines of entries, where the side n and the levels R are good.
 pub record Surveyed (t : List ℕ) (at n R : ℕ) (r f : Bool) : Type 0 where
@@ -28,6 +35,7 @@ pub record LaidOut (t : List ℕ) (l : Layout) : Type 0 where
   pub levels : levelsIn (rowsOf t) ≡ l .levels
   pub blocks : getD (rowsOf t) 1 [] ≡ linesAt four t (l .blocks)
   pub entries : getD (rowsOf t) 2 [] ≡ linesAt five t (l .entries)
+  pub tiled : Tiled t (l .blocks) (l .side) (l .levels) (l .ordered) (l .numbered)
   pub surveyed : Surveyed t (l .entries) (l .side) (l .levels) (l .rising) (l .fitting)
 
 abbrev pub FoundIn : List ℕ → Found → Type 0

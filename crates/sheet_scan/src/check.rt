@@ -2,10 +2,11 @@
 ghost use mathlib.Core.Path.{_≡_};
 ghost use Prim.Native.Nat.{_≤_};
 ghost use lib.ListN.{length};
-ghost use Rattle.text.specs.Lines.{fivesAt};
+ghost use Rattle.text.specs.Lines.{foursAt, fivesAt};
 ghost use Rattle.sheet_text.specs.Claims.{SheetLaws};
-ghost use Rattle.sheet_scan.specs.Parts.{Surveyed, FoundIn};
+ghost use Rattle.sheet_scan.specs.Parts.{Tiled, Surveyed, FoundIn};
 use crate::scan::Survey;
+use crate::tiles::Tiling;
 use text::lines::LineOfTwo;
 use text::names::Skip;
 
@@ -15,6 +16,10 @@ pub struct Layout {
     pub levels: u32,
     pub blocks: usize,
     pub entries: usize,
+    // Of the blocks' lines, where the side and the levels are good: whether they are exactly the blocks in covering order; and, where they are, whether
+    // their coverings have numbers.
+    pub ordered: bool,
+    pub numbered: bool,
     // Of the entries' lines, where the side and the levels are good: whether they stand at places of the plane, rising in plane order, with values that
     // are not 0; and whether these are in their ranges.
     pub rising: bool,
@@ -25,6 +30,32 @@ pub enum Found {
     At(Layout),
     // It breaks the line rules.
     Bad,
+}
+
+// Passes the lines of the blocks, in one pass where the side and the levels are good.
+fn survey_blocks(s: &[u8], at: usize, side: u32, levels: u32) -> Tiling
+    requires { ⌜ at ≤ length (now s) ⌝ }
+    ensures { λ r. ⌜ r .past ≡ foursAt (now (s .entry)) at ⌝ }
+    ensures { λ r. ⌜ Tiled (now (s .entry)) at side levels (r .ordered) (r .numbered) ⌝ }
+{
+    let n = side as usize;
+    if !places::checks::is_side(n) {
+        let past = reader::fours_end(s, at);
+        return Tiling {
+            past,
+            ordered: false,
+            numbered: false,
+        };
+    }
+    if !places::checks::is_depth(levels as usize, n) {
+        let past = reader::fours_end(s, at);
+        return Tiling {
+            past,
+            ordered: false,
+            numbered: false,
+        };
+    }
+    crate::tiles::tile_along(s, at, side, levels)
 }
 
 // Passes the lines of the entries, in one pass where the side and the levels are good.
@@ -68,7 +99,8 @@ pub fn find_parts(s: &[u8]) -> Found
     let Skip::To(t) = reader::names_at(s, q, b"level row col cover\n") else {
         return Found::Bad;
     };
-    let Skip::To(v) = reader::fours_then_names(s, t, b"level band row col value\n") else {
+    let u = survey_blocks(s, t, h.first, h.second);
+    let Skip::To(v) = reader::names_at(s, u.past, b"level band row col value\n") else {
         return Found::Bad;
     };
     let w = survey_entries(s, v, h.first, h.second);
@@ -80,6 +112,8 @@ pub fn find_parts(s: &[u8]) -> Found
         levels: h.second,
         blocks: t,
         entries: v,
+        ordered: u.ordered,
+        numbered: u.numbered,
         rising: w.rising,
         fitting: w.fitting,
     })

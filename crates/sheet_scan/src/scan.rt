@@ -7,7 +7,7 @@ ghost use Rattle.text.specs.Text.{limit};
 ghost use lib.ListN.{length};
 ghost use Rattle.pyramid.specs.Places.{planePlaces};
 ghost use Rattle.pyramid.specs.Sides.{isSide, isDepth};
-ghost use Rattle.text.specs.Lines.{linesAt, fivesAt};
+ghost use Rattle.text.specs.Lines.{linesAt, fiveAt, fivesAt};
 ghost use Rattle.text.proofs.Many.{five};
 ghost use Rattle.sheet_text.specs.Rows.{valuesOf};
 ghost use Rattle.sheet_text.specs.Sheet.{isSome};
@@ -16,7 +16,7 @@ ghost use Rattle.sheet_scan.specs.Scan.{valueHere, linesPast, zeroHere, 
 use places::walk::Walk;
 use text::lines::LineOfFive;
 
-// What the line at a place of the text says of the present entry.
+// What the next line says of the present entry.
 pub struct Here {
     // The value, 0 where the line is of another entry or there is none.
     pub value: i64,
@@ -26,11 +26,12 @@ pub struct Here {
     pub next: usize,
 }
 
-// Looks at the line at the place `at`.
-fn look(s: &[u8], at: usize, k: Walk) -> Here
+// Looks at the line that was read at the place `at`.
+fn look(s: &[u8], at: usize, line: LineOfFive, k: Walk) -> Here
+    requires { ⌜ line ≡ fiveAt (now s) at ⌝ }
     ensures { λ r. ⌜ (r .value ≡ valueHere (entryOf k) (linesAt five (now (s .entry)) at)) × (r .zero ≡ zeroHere (entryOf k) (linesAt five (now (s .entry)) at)) × (linesAt five (now (s .entry)) (r .next) ≡ linesPast (entryOf k) (linesAt five (now (s .entry)) at)) × (natAbs (r .value) ≤ limit) × (fivesAt (now (s .entry)) (r .next) ≡ fivesAt (now (s .entry)) at) × (at ≤ length (now (s .entry)) → r .next ≤ length (now (s .entry))) ⌝ }
 {
-    let LineOfFive::Of(f) = text::lines::read_five(s, at) else {
+    let LineOfFive::Of(f) = line else {
         return Here {
             value: 0,
             zero: false,
@@ -79,8 +80,19 @@ fn look(s: &[u8], at: usize, k: Walk) -> Here
     }
 }
 
+// The line at the place `next`: it is not read again where that is the place `at`, at which the present one was read.
+fn read_on(s: &[u8], at: usize, line: LineOfFive, next: usize) -> LineOfFive
+    requires { ⌜ line ≡ fiveAt (now s) at ⌝ }
+    ensures { λ r. ⌜ r ≡ fiveAt (now (s .entry)) next ⌝ }
+{
+    if next == at {
+        return line;
+    }
+    text::lines::read_five(s, next)
+}
+
 // Whether two tests hold.
-fn both(a: bool, b: bool) -> bool
+pub fn both(a: bool, b: bool) -> bool
     ensures { λ r. ⌜ r ≡ (a && b) ⌝ }
 {
     if a {
@@ -106,18 +118,20 @@ pub fn look_along(s: &[u8], at: usize, side: u32, levels: u32) -> Survey
 {
     let mut k = places::walk::first_entry(side, levels);
     let mut p = at;
+    let mut line = text::lines::read_five(s, at);
     let mut rising = true;
     let mut fitting = true;
     while 0 < k.left {
-        let h = look(s, p, k);
+        let h = look(s, p, line, k);
         let v = h.value;
         let fits = places::checks::fits_range(levels, k, v);
         fitting = both(fitting, fits);
         rising = both(rising, !h.zero);
+        line = read_on(s, p, line, h.next);
         p = h.next;
         k = places::walk::step(k, side);
     }
-    let LineOfFive::Of(f) = text::lines::read_five(s, p) else {
+    let LineOfFive::Of(f) = line else {
         return Survey {
             past: p,
             rising,
@@ -140,11 +154,13 @@ pub fn store_values(plane: &mut [i64], s: &[u8], at: usize, side: u32, levels: u
 {
     let mut k = places::walk::first_entry(side, levels);
     let mut p = at;
+    let mut line = text::lines::read_five(s, at);
     while 0 < k.left {
-        let h = look(s, p, k);
+        let h = look(s, p, line, k);
         let v = h.value;
         let i = places::checks::index_of(k, side);
         plane[i] = v;
+        line = read_on(s, p, line, h.next);
         p = h.next;
         k = places::walk::step(k, side);
     }

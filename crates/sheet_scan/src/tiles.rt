@@ -1,13 +1,14 @@
 // The lines of a sheet's blocks, read along a walk.
 ghost use mathlib.Core.Path.{_≡_};
 ghost use mathlib.Core.Bool.{true, _&&_};
+ghost use Prim.Native.Nat.{_≤_};
 ghost use lib.Dec.{eqb};
 ghost use lib.ListN.{length};
 ghost use Rattle.integers.specs.Lists.{every};
 ghost use Rattle.coverings.specs.Entry.{isNumber};
 ghost use Rattle.pyramid.specs.Places.{blockPlaces};
 ghost use Rattle.pyramid.specs.Sides.{isSide, isDepth};
-ghost use Rattle.text.specs.Lines.{linesAt};
+ghost use Rattle.text.specs.Lines.{linesAt, foursAt};
 ghost use Rattle.text.proofs.Many.{four};
 ghost use Rattle.sheet_text.specs.Rows.{coversOf};
 ghost use Rattle.sheet_text.specs.Sheet.{isSome};
@@ -29,50 +30,63 @@ fn is_block(f: Four, k: Walk) -> bool
     f.third == k.col
 }
 
-// Whether the lines from the place `at` on are exactly the blocks in covering order.
-pub fn in_order(s: &[u8], at: usize, side: u32, levels: u32) -> bool
-    requires { ⌜ (isSide side ≡ true) × (isDepth levels side side ≡ true) ⌝ }
-    ensures { λ r. ⌜ r ≡ isSome (coversOf (blockPlaces levels side side) (linesAt four (now (s .entry)) at)) ⌝ }
+// Whether a covering has a number, 1 to 117.
+fn is_number(c: u32) -> bool
+    ensures { λ r. ⌜ r ≡ isNumber c ⌝ }
+{
+    if c < 1 {
+        return false;
+    }
+    c <= 117
+}
+
+// What one pass over the lines of the blocks finds.
+pub struct Tiling {
+    // The place past the lines.
+    pub past: usize,
+    // Whether they are exactly the blocks in covering order.
+    pub ordered: bool,
+    // Whether their coverings have numbers, where they are the blocks.
+    pub numbered: bool,
+}
+
+// Passes the lines from the place `at` on.
+pub fn tile_along(s: &[u8], at: usize, side: u32, levels: u32) -> Tiling
+    requires { ⌜ (isSide side ≡ true) × (isDepth levels side side ≡ true) × (at ≤ length (now s)) ⌝ }
+    ensures { λ r. ⌜ (r .past ≡ foursAt (now (s .entry)) at) × (r .ordered ≡ isSome (coversOf (blockPlaces levels side side) (linesAt four (now (s .entry)) at))) × (r .ordered ≡ true → r .numbered ≡ every isNumber (coversAlong (linesAt four (now (s .entry)) at))) ⌝ }
 {
     let mut k = places::walk::first_block(side, levels);
     let mut p = at;
+    let mut ordered = true;
+    let mut numbered = true;
     while 0 < k.left {
         let LineOfFour::Of(f) = text::lines::read_four(s, p) else {
-            return false;
+            return Tiling {
+                past: p,
+                ordered: false,
+                numbered: false,
+            };
         };
-        if !is_block(f, k) {
-            return false;
-        }
+        let here = is_block(f, k);
+        ordered = crate::scan::both(ordered, here);
+        let good = is_number(f.fourth);
+        numbered = crate::scan::both(numbered, good);
         p = f.next;
         k = places::walk::step(k, side);
     }
-    let LineOfFour::Of(_) = text::lines::read_four(s, p) else {
-        return true;
-    };
-    false
-}
-
-// Whether the coverings of the n lines from the place `at` on have numbers, 1 to 117.
-pub fn numbered(s: &[u8], at: usize, n: usize) -> bool
-    requires { ⌜ length (linesAt four (now s) at) ≡ n ⌝ }
-    ensures { λ r. ⌜ r ≡ every isNumber (coversAlong (linesAt four (now (s .entry)) at)) ⌝ }
-{
-    let mut p = at;
-    let mut i: usize = 0;
-    while i < n {
-        let LineOfFour::Of(f) = text::lines::read_four(s, p) else {
-            return true;
+    let LineOfFour::Of(g) = text::lines::read_four(s, p) else {
+        return Tiling {
+            past: p,
+            ordered,
+            numbered,
         };
-        if f.fourth < 1 {
-            return false;
-        }
-        if 117 < f.fourth {
-            return false;
-        }
-        p = f.next;
-        i += 1;
+    };
+    let past = text::lines::pass_fours(s, g.next);
+    Tiling {
+        past,
+        ordered: false,
+        numbered: false,
     }
-    true
 }
 
 // Stores the coverings of the lines from the place `at` on.

@@ -51,13 +51,16 @@ blocks : (e : tie.Else4) → let l = lay (e .before .before .before .before .bef
 blocks e = e .if4 .left ∙ e .before .count-blocks .ensures .0
 
 order : (e : tie.Else5) → let k = (e .before .before .before .before .before .before .before .before .before) in isSome (coversOf (blockPlaces (lay k .levels) (lay k .side) (lay k .side)) (linesAt four (txt k) (lay k .blocks))) ≡ true
-order e = sym (e .before .in-order .ensures) ∙ not-false _ (e .if5 .left)
+order e = sym (laid (e .before .before .before .before .before .before .before .before .before) .tiled .ordered (side (e .before .before .before .before .before .before .before)) (depth (e .before .before .before .before .before))) ∙ not-false _ (e .if5 .left)
+
+ordered : (e : tie.Else5) → lay (e .before .before .before .before .before .before .before .before .before) .ordered ≡ true
+ordered e = not-false _ (e .if5 .left)
 
 sequence : (e : tie.Else6) → let k = (e .before .before .before .before .before .before .before .before .before .before .before) in isSome (valuesOf (planePlaces (lay k .levels) (lay k .side) (lay k .side)) (linesAt five (txt k) (lay k .entries))) ≡ true
 sequence e = sym (laid (e .before .before .before .before .before .before .before .before .before .before .before) .surveyed .rising (side (e .before .before .before .before .before .before .before .before .before)) (depth (e .before .before .before .before .before .before .before))) ∙ not-false _ (e .if6 .left)
 
 numbers : (e : tie.Else7) → let k = (e .before .before .before .before .before .before .before .before .before .before .before .before .before) in every isNumber (coversAlong (linesAt four (txt k) (lay k .blocks))) ≡ true
-numbers e = sym (e .before .numbered .ensures) ∙ not-false _ (e .if7 .left)
+numbers e = sym (laid (e .before .before .before .before .before .before .before .before .before .before .before .before .before) .tiled .numbered (side (e .before .before .before .before .before .before .before .before .before .before .before)) (depth (e .before .before .before .before .before .before .before .before .before)) (ordered (e .before .before .before .before))) ∙ not-false _ (e .if7 .left)
 
 ranges : (e : tie.Else8) → let k = (e .before .before .before .before .before .before .before .before .before .before .before .before .before .before .before) in fitAlong (lay k .levels) (planePlaces (lay k .levels) (lay k .side) (lay k .side)) (linesAt five (txt k) (lay k .entries)) ≡ true
 ranges e = sym (laid (e .before .before .before .before .before .before .before .before .before .before .before .before .before .before .before) .surveyed .fitting (side (e .before .before .before .before .before .before .before .before .before .before .before .before .before)) (depth (e .before .before .before .before .before .before .before .before .before .before .before))) ∙ not-false _ (e .if8 .left)
@@ -147,9 +150,6 @@ returns-5 c =
     (c .before .before .if3 .left ∙ sym (λ i. L .side i * L .side i))
     (λ z. c .if4 .taken (z ∙ (λ i. allBlocks (L .levels i) (L .side i) (L .side i)) ∙ sym (c .before .count-blocks .ensures .0)))
 
-in-order-requires : tie.Need-in-order-requires
-in-order-requires c κs = (side (c .before .before .before .before .before), depth (c .before .before .before))
-
 returns-6 : tie.Need-returns-6
 returns-6 c =
     let k = (c .before .before .before .before .before .before .before .before .before) in
@@ -163,7 +163,7 @@ returns-6 c =
     ((λ i. isDepth (L .levels i) (L .side i) (L .side i)) ∙ depth (c .before .before .before .before .before))
     (c .before .before .before .before .if3 .left ∙ sym (λ i. L .side i * L .side i))
     (blocks (c .before .before) ∙ sym (λ i. allBlocks (L .levels i) (L .side i) (L .side i)))
-    (order-said t l L ∙ sym (c .before .in-order .ensures) ∙ not-true _ (c .if5 .taken))
+    (order-said t l L ∙ sym (L .tiled .ordered (side (c .before .before .before .before .before .before .before)) (depth (c .before .before .before .before .before))) ∙ not-true _ (c .if5 .taken))
 
 returns-7 : tie.Need-returns-7
 returns-7 c =
@@ -181,9 +181,6 @@ returns-7 c =
     (order-said t l L ∙ order (c .before .before))
     (sequence-said t l L ∙ sym (L .surveyed .rising (side (c .before .before .before .before .before .before .before .before .before)) (depth (c .before .before .before .before .before .before .before))) ∙ not-true _ (c .if6 .taken))
 
-numbered-requires : tie.Need-numbered-requires
-numbered-requires c κs = count (c .before .before) ∙ sym (c .before .before .before .before .before .count-blocks .ensures .0)
-
 returns-8 : tie.Need-returns-8
 returns-8 c =
     let k = (c .before .before .before .before .before .before .before .before .before .before .before .before .before) in
@@ -199,7 +196,7 @@ returns-8 c =
     (blocks (c .before .before .before .before .before .before) ∙ sym (λ i. allBlocks (L .levels i) (L .side i) (L .side i)))
     (order-said t l L ∙ order (c .before .before .before .before))
     (sequence-said t l L ∙ sequence (c .before .before))
-    (ap (every isNumber) (covers-are t l L (order (c .before .before .before .before))) ∙ sym (c .before .numbered .ensures) ∙ not-true _ (c .if7 .taken))
+    (ap (every isNumber) (covers-are t l L (order (c .before .before .before .before))) ∙ sym (L .tiled .numbered (side (c .before .before .before .before .before .before .before .before .before .before .before)) (depth (c .before .before .before .before .before .before .before .before .before)) (ordered (c .before .before .before .before))) ∙ not-true _ (c .if7 .taken))
 
 returns-9 : tie.Need-returns-9
 returns-9 c =
@@ -271,10 +268,8 @@ read-spec =
     returns-4
     count-blocks-requires
     returns-5
-    in-order-requires
     returns-6
     returns-7
-    numbered-requires
     returns-8
     returns-9
     store-covers-requires

@@ -8,7 +8,6 @@ use borrow.Author.Tests.{ne-eqb, eq-eqb}
 use lib.Dec.{eqb}
 use lib.ListN.{length}
 use Rattle.text.specs.Text.{parse}
-use Rattle.text.specs.Lines.{foursAt}
 use Rattle.sheet_text.specs.Forms.{sheetForm}
 use Rattle.sheet_text.specs.Sheet.{isSome}
 use Rattle.text.proofs.Many.{TwoLine, two-line, two, four, five, SkipRead, RowRead, RowsRead, skip-at, skip-none, two-at, two-none, rows-at}
@@ -20,7 +19,7 @@ use Rattle.sheet_scan.proofs.check.find_parts.Tie as tie
 slice-aggregate-names-at : tie.Need-slice-aggregate-names-at
 slice-aggregate-names-at c = search needs
 
--- what was read so far: after the first names, the line of two, the second names, and the block lines with the third names
+-- what was read so far: after the first names, the line of two, the second names, the block lines and the third names
 abbrev K1 : Type 0
 K1 = tie.After-known-told
 
@@ -33,36 +32,26 @@ s1 k = skip-at N1 (S k) 0 (k .before .p .given .0 .0) (sym (k .before .before .b
 abbrev K2 : Type 0
 K2 = tie.After-known-told2
 
-abbrev to-1 : K2 → K1
-to-1 k = k .before .before .before .before
-
-s2 : (k : K2) → RowRead two (S (to-1 k)) (to-1 k .before .p .given .0 .0) (k .before .h .given .0 .0 .next)
-s2 k = two-at (S (to-1 k)) (to-1 k .before .p .given .0 .0) (k .before .h .given .0 .0) (sym (k .before .before .before .two-at .ensures) ∙ k .before .h .given .1)
+s2 : (k : K2) → RowRead two (S (k .before .before .before .before)) (k .before .before .before .before .before .p .given .0 .0) (k .before .h .given .0 .0 .next)
+s2 k = two-at (S (k .before .before .before .before)) (k .before .before .before .before .before .p .given .0 .0) (k .before .h .given .0 .0) (sym (k .before .before .before .two-at .ensures) ∙ k .before .h .given .1)
 
 abbrev K3 : Type 0
 K3 = tie.After-known-told3
 
-abbrev to-2 : K3 → K2
-to-2 k = k .before .before .before .before .before
-
-s3 : (k : K3) → SkipRead N2 (S (to-1 (to-2 k))) (to-2 k .before .h .given .0 .0 .next) (k .before .t .given .0 .0)
-s3 k = skip-at N2 (S (to-1 (to-2 k))) (to-2 k .before .h .given .0 .0 .next) (k .before .t .given .0 .0) (sym (k .before .before .before .names-at2 .ensures) ∙ k .before .t .given .1)
-
--- the place past the block lines
-abbrev past : K3 → ℕ
-past k = foursAt (S (to-1 (to-2 k))) (k .before .t .given .0 .0)
-
-s4 : (k : K3) → RowsRead four (S (to-1 (to-2 k))) (k .before .t .given .0 .0) (past k)
-s4 k = rows-at four (S (to-1 (to-2 k))) (k .before .t .given .0 .0) (past k) refl
+s3 : (k : K3) → SkipRead N2 (S (k .before .before .before .before .before .before .before .before .before)) (k .before .before .before .before .before .before .h .given .0 .0 .next) (k .before .t .given .0 .0)
+s3 k = skip-at N2 (S (k .before .before .before .before .before .before .before .before .before)) (k .before .before .before .before .before .before .h .given .0 .0 .next) (k .before .t .given .0 .0) (sym (k .before .before .before .names-at2 .ensures) ∙ k .before .t .given .1)
 
 abbrev K4 : Type 0
-K4 = tie.After-known-told4
+K4 = tie.After-survey-blocks
 
-abbrev to-3 : K4 → K3
-to-3 k = k .before .before .before .before .before
+s4 : (k : K4) → RowsRead four (S (k .before .before .before .before .before .before .before .before .before .before)) (k .before .before .t .given .0 .0) (k .survey-blocks .result .past)
+s4 k = rows-at four (S (k .before .before .before .before .before .before .before .before .before .before)) (k .before .before .t .given .0 .0) (k .survey-blocks .result .past) (k .survey-blocks .ensures .0)
 
-s5 : (k : K4) → SkipRead N3 (S (to-1 (to-2 (to-3 k)))) (past (to-3 k)) (k .before .v .given .0 .0)
-s5 k = skip-at N3 (S (to-1 (to-2 (to-3 k)))) (past (to-3 k)) (k .before .v .given .0 .0) (sym (k .before .before .before .fours-then-names .ensures) ∙ k .before .v .given .1)
+abbrev K5 : Type 0
+K5 = tie.After-known-told4
+
+s5 : (k : K5) → SkipRead N3 (S (k .before .before .before .before .before .before .before .before .before .before .before .before .before .before .before)) (k .before .before .before .before .before .survey-blocks .result .past) (k .before .v .given .0 .0)
+s5 k = skip-at N3 (S (k .before .before .before .before .before .before .before .before .before .before .before .before .before .before .before)) (k .before .before .before .before .before .survey-blocks .result .past) (k .before .v .given .0 .0) (sym (k .before .before .before .names-at3 .ensures) ∙ k .before .v .given .1)
 
 names-at-requires : tie.Need-names-at-requires
 names-at-requires c κs = search needs
@@ -108,17 +97,20 @@ enum-told-3 c = search needs
 returns-3 : tie.Need-returns-3
 returns-3 c = (
   let j = c .before .before .before .before in
-      let k = to-1 j in
+      let k = j .before .before .before .before in
       let q = j .before .h .given .0 .0 .next in
       sym (no-3 (S k) (k .before .p .given .0 .0) (s1 k) q (s2 j) (skip-none N2 (S k) q (sym (c .before .before .names-at2 .ensures) ∙ c .enum-told3 .given .1))),
   laws,
 )
 
-slice-aggregate-fours-then-names : tie.Need-slice-aggregate-fours-then-names
-slice-aggregate-fours-then-names c = search needs
+survey-blocks-requires : tie.Need-survey-blocks-requires
+survey-blocks-requires c κs = s3 c .within
 
-fours-then-names-requires : tie.Need-fours-then-names-requires
-fours-then-names-requires c κs = s3 (c .before) .within
+slice-aggregate-names-at-3 : tie.Need-slice-aggregate-names-at-3
+slice-aggregate-names-at-3 c = search needs
+
+names-at-requires-3 : tie.Need-names-at-requires-3
+names-at-requires-3 c κs = s4 (c .before) .within
 
 enum-known-v : tie.Need-enum-known-v
 enum-known-v c = search needs
@@ -128,27 +120,30 @@ enum-told-4 c = search needs
 
 returns-4 : tie.Need-returns-4
 returns-4 c = (
-  let i = c .before .before .before .before in
-      let j = to-2 i in
-      let k = to-1 j in
-      sym (no-4 (S k) (k .before .p .given .0 .0) (s1 k) (j .before .h .given .0 .0 .next) (s2 j) (i .before .t .given .0 .0) (past i) (s3 i) (s4 i)
-      (skip-none N3 (S k) (past i) (sym (c .before .before .fours-then-names .ensures) ∙ c .enum-told4 .given .1))),
+  let h = c .before .before .before .before in
+      let i = h .before in
+      let j = i .before .before .before .before .before in
+      let k = j .before .before .before .before in
+      let u = h .survey-blocks .result .past in
+      sym (no-4 (S k) (k .before .p .given .0 .0) (s1 k) (j .before .h .given .0 .0 .next) (s2 j) (i .before .t .given .0 .0) u (s3 i) (s4 h)
+      (skip-none N3 (S k) u (sym (c .before .before .names-at3 .ensures) ∙ c .enum-told4 .given .1))),
   laws,
 )
 
 survey-entries-requires : tie.Need-survey-entries-requires
 survey-entries-requires c κs = s5 c .within
 
-s6 : (c : tie.After-survey-entries) → let g = c .before in RowsRead five (S (to-1 (to-2 (to-3 g)))) (g .before .v .given .0 .0) (c .survey-entries .result .past)
-s6 c = let g = c .before in rows-at five (S (to-1 (to-2 (to-3 g)))) (g .before .v .given .0 .0) (c .survey-entries .result .past) (c .survey-entries .ensures .0)
+s6 : (c : tie.After-survey-entries) → let g = c .before in RowsRead five (S (g .before .before .before .before .before .before .before .before .before .before .before .before .before .before .before)) (g .before .v .given .0 .0) (c .survey-entries .result .past)
+s6 c = let g = c .before in rows-at five (S (g .before .before .before .before .before .before .before .before .before .before .before .before .before .before .before)) (g .before .v .given .0 .0) (c .survey-entries .result .past) (c .survey-entries .ensures .0)
 
-ends : (c : tie.After-survey-entries) → let s = S (to-1 (to-2 (to-3 (c .before)))) in eqb (c .survey-entries .result .past) (length s) ≡ isSome (parse sheetForm s)
+ends : (c : tie.After-survey-entries) → let s = S (c .before .before .before .before .before .before .before .before .before .before .before .before .before .before .before .before) in eqb (c .survey-entries .result .past) (length s) ≡ isSome (parse sheetForm s)
 ends c =
     let g = c .before in
-    let i = to-3 g in
-    let j = to-2 i in
-    let k = to-1 j in
-    at-end (S k) (k .before .p .given .0 .0) (s1 k) (j .before .h .given .0 .0 .next) (s2 j) (i .before .t .given .0 .0) (past i) (s3 i) (s4 i)
+    let h = g .before .before .before .before .before in
+    let i = h .before in
+    let j = i .before .before .before .before .before in
+    let k = j .before .before .before .before in
+    at-end (S k) (k .before .p .given .0 .0) (s1 k) (j .before .h .given .0 .0 .next) (s2 j) (i .before .t .given .0 .0) (h .survey-blocks .result .past) (s3 i) (s4 h)
     (g .before .v .given .0 .0) (c .survey-entries .result .past) (s5 g) (s6 c)
 
 returns-5 : tie.Need-returns-5
@@ -158,14 +153,15 @@ returns-6 : tie.Need-returns-6
 returns-6 c =
     let x = c .before .before in
     let g = x .before in
-    let i = to-3 g in
-    let j = to-2 i in
-    let k = to-1 j in
+    let h = g .before .before .before .before .before in
+    let i = h .before in
+    let j = i .before .before .before .before .before in
+    let k = j .before .before .before .before in
     let p = k .before .p .given .0 .0 in
     let f = j .before .h .given .0 .0 in
     let e = c .if1 .left in
     let y = two-line (S k) p f (sym (j .before .before .before .two-at .ensures) ∙ j .before .h .given .1) in (
-      laid (S k) p (i .before .t .given .0 .0) (past i) (g .before .v .given .0 .0) (x .survey-entries .result .past) f (x .survey-entries .result .rising) (x .survey-entries .result .fitting) (s1 k) y (s3 i) (s4 i) (s5 g) (s6 x) (sym (ends x) ∙ eq-eqb _ _ e) (omega (arith, e)) (x .survey-entries .ensures .1),
+      laid (S k) p (i .before .t .given .0 .0) (h .survey-blocks .result .past) (g .before .v .given .0 .0) (x .survey-entries .result .past) f (h .survey-blocks .result .ordered) (h .survey-blocks .result .numbered) (x .survey-entries .result .rising) (x .survey-entries .result .fitting) (s1 k) y (s3 i) (s4 h) (s5 g) (s6 x) (sym (ends x) ∙ eq-eqb _ _ e) (omega (arith, e)) (h .survey-blocks .ensures .1) (x .survey-entries .ensures .1),
       laws,
     )
 
@@ -187,8 +183,9 @@ find-parts-spec =
     enum-known-t
     enum-told-3
     returns-3
-    slice-aggregate-fours-then-names
-    fours-then-names-requires
+    survey-blocks-requires
+    slice-aggregate-names-at-3
+    names-at-requires-3
     enum-known-v
     enum-told-4
     returns-4

@@ -10,7 +10,7 @@ use mir.Syntax.{w64}
 use mir.Val.{toZ, ofZ, SFits}
 use mir.Facts.{toZ-ofZ}
 use Rattle.text.proofs.Signed.{sfits}
-use Rattle.text.specs.Lines.{linesAt}
+use Rattle.text.specs.Lines.{linesAt, fiveAt}
 use Rattle.text.proofs.Many.{five}
 use Rattle.pyramid.specs.Places.{Place, planePlaces}
 use Rattle.places.specs.Walk.{indexIn, Inside, entryAt, entryOf, entriesLeft}
@@ -31,24 +31,24 @@ unfolding storedAlong
 store-end h rs plane = refl
 
 abbrev Inv-loop : tie.InvT-loop
-Inv-loop plane₀ s at side levels k₀ p₀ plane k p = Inside side k × (length plane ≡ length plane₀) × (storedAlong side (entriesLeft k) (linesAt five s p) plane ≡ storedAlong side (planePlaces levels side side) (linesAt five s at) plane₀)
+Inv-loop plane₀ s at side levels k₀ p₀ line₀ plane k p line = Inside side k × (length plane ≡ length plane₀) × (storedAlong side (entriesLeft k) (linesAt five s p) plane ≡ storedAlong side (planePlaces levels side side) (linesAt five s at) plane₀) × (line ≡ fiveAt s p)
 
 abbrev μ-loop : tie.MeasureT-loop
-μ-loop plane₀ s at side levels k₀ p₀ plane k p = length (entriesLeft k)
-
-first-of : (c : tie.After-look Inv-loop μ-loop) → let k = c .before .before .before .loop .k in (t : List Place) × (entriesLeft k ≡ entryOf k ∷ t)
-first-of c = let l = c .before .before .before .loop in present entryAt (l .k) (c .before .if1 .taken) (l .inv .0 .row) (l .inv .0 .col)
+μ-loop plane₀ s at side levels k₀ p₀ line₀ plane k p line = length (entriesLeft k)
 
 first-entry-requires : tie.Need-first-entry-requires Inv-loop μ-loop
 first-entry-requires c κs = (c .before .pre .0 .0, c .before .pre .0 .1)
 
+read-five-requires : tie.Need-read-five-requires Inv-loop μ-loop
+read-five-requires c κs = search needs
+
 loop-holds : tie.Need-loop-holds Inv-loop μ-loop
 loop-holds c =
-    let a = c .before .before .args in
-    (c .first-entry .ensures .0, refl, ap (λ ps. storedAlong (a .side) ps (linesAt five (a .s .now) (a .at)) (a .plane .now)) (c .first-entry .ensures .1))
+    let a = c .before .before .before .args in
+    (c .before .first-entry .ensures .0, refl, ap (λ ps. storedAlong (a .side) ps (linesAt five (a .s .now) (a .at)) (a .plane .now)) (c .before .first-entry .ensures .1), c .read-five .ensures)
 
 look-requires : tie.Need-look-requires Inv-loop μ-loop
-look-requires c κs = search needs
+look-requires c κs = c .before .before .loop .inv .3
 
 index-of-requires : tie.Need-index-of-requires Inv-loop μ-loop
 index-of-requires c κs = c .before .before .before .before .loop .inv .0
@@ -57,27 +57,31 @@ mul-v : tie.Need-mul-v Inv-loop μ-loop
 mul-v c = search needs
 
 slice-set-from-v : tie.Need-slice-set-from-v Inv-loop μ-loop
-slice-set-from-v c = omega (arith, c .index-of .ensures .1, c .before .before .before .before .before .loop .inv .1, c .before .before .before .before .before .before .before .before .pre .1)
+slice-set-from-v c = omega (arith, c .index-of .ensures .1, c .before .before .before .before .before .loop .inv .1, c .before .before .before .before .before .before .before .before .before .pre .1)
+
+read-on-requires : tie.Need-read-on-requires Inv-loop μ-loop
+read-on-requires c κs = c .before .before .before .before .before .loop .inv .3
 
 step-requires : tie.Need-step-requires Inv-loop μ-loop
-step-requires c κs = (c .before .before .before .if1 .taken, c .before .before .before .before .before .loop .inv .0)
+step-requires c κs = (c .before .before .before .before .if1 .taken, c .before .before .before .before .before .before .loop .inv .0)
 
 loop-less : tie.Need-loop-less Inv-loop μ-loop
 loop-less c = let e = ap length (c .step .ensures .entries) in omega arith
 
 loop-again : tie.Need-loop-again Inv-loop μ-loop
 loop-again c =
-    let a = c .before .before .before .before .before .before .before .before .before .args in
-    let l = c .before .before .before .before .before .before .loop in
+    let a = c .before .before .before .before .before .before .before .before .before .before .before .args in
+    let l = c .before .before .before .before .before .before .before .loop in
     let rs = linesAt five (a .s .now) (l .p) in
-    let h = c .before .before .before .look in
+    let h = c .before .before .before .before .look in
     let p = entryOf (l .k) in
     let t = entriesLeft (c .step .result) in
     let v : toZ w64 (ofZ w64 (h .result .value)) ≡ valueHere p rs = toZ-ofZ {w = w64} (sfits (h .result .value) (h .ensures .3)) ∙ h .ensures .0 in (
       c .step .ensures .inside,
-      length-set (l .plane) (c .before .index-of .result) (toZ w64 (ofZ w64 (h .result .value))) ∙ l .inv .1,
-      (λ i. storedAlong (a .side) t (h .ensures .2 i) (set (l .plane) (c .before .index-of .ensures .0 i) (v i)))
+      length-set (l .plane) (c .before .before .index-of .result) (toZ w64 (ofZ w64 (h .result .value))) ∙ l .inv .1,
+      (λ i. storedAlong (a .side) t (h .ensures .2 i) (set (l .plane) (c .before .before .index-of .ensures .0 i) (v i)))
           ∙ sym (store-next (a .side) p t rs (l .plane)) ∙ sym (ap (λ ps. storedAlong (a .side) ps rs (l .plane)) (c .step .ensures .entries)) ∙ l .inv .2,
+      c .before .read-on .ensures,
     )
 
 same-length : tie.Need-same-length Inv-loop μ-loop
@@ -85,7 +89,7 @@ same-length c = c .before .before .loop .inv .1
 
 returns : tie.Need-returns Inv-loop μ-loop
 returns c =
-    let a = c .before .before .before .before .before .args in
+    let a = c .before .before .before .before .before .before .args in
     let l = c .before .before .loop in
     let rs = linesAt five (a .s .now) (l .p) in
     sym (ap (λ ps. storedAlong (a .side) ps rs (l .plane)) (ended entryAt (l .k) (omega (arith, c .if1 .left))) ∙ store-end (a .side) rs (l .plane)) ∙ l .inv .2
@@ -97,11 +101,13 @@ store-values-spec =
     Inv-loop
     μ-loop
     first-entry-requires
+    read-five-requires
     loop-holds
     look-requires
     index-of-requires
     mul-v
     slice-set-from-v
+    read-on-requires
     step-requires
     loop-less
     loop-again

@@ -17,7 +17,6 @@ use Rattle.sheet_text.specs.Sheet.{isSome}
 use Rattle.places.specs.Walk.{Inside, blockAt, blockOf, blocksLeft}
 use Rattle.sheet_scan.specs.Scan.{coversAlong}
 use Rattle.places.proofs.Steps.{present, ended}
-use Rattle.sheet_scan.proofs.Scans.{covers-none, covers-other, covers-next, covers-end, covers-over}
 use lib.Dec.{T, leb}
 use lib.Seq.{drop-cons}
 use native.Mathlib.Numerals.{add-one}
