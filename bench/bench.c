@@ -110,6 +110,7 @@ static void agree(size_t side, size_t levels, int kind)
 
 struct times {
     double decompose, straight, shared, restore, base_restore, keep, base_keep, write, digits, printed, read, base_read;
+    double kept_write, kept_digits, kept_read, kept_base_read; /* of the plane that keep leaves */
 };
 
 /* The best of several rounds. Each round has one call of each entry, so that a busy machine hits all alike. */
@@ -130,6 +131,10 @@ static struct times measure(size_t side, size_t levels)
         TIME(t.base_keep, base_keep(side, levels, q, area, area / 10, &left));
         memcpy(q, p, bytes);
         TIME(t.keep, tetrolet_keep(side, levels, q, area, area / 10, &left));
+        TIME(t.kept_digits, base_write(BASE_DIGITS, side, levels, q, area, c, blocks, text, TETROLET_MAX_SHEET, &length));
+        TIME(t.kept_write, tetrolet_write(side, levels, q, area, c, blocks, text, TETROLET_MAX_SHEET, &length));
+        TIME(t.kept_base_read, base_read(text, length, n, area, d, blocks, &s, &l));
+        TIME(t.kept_read, tetrolet_read(text, length, n, area, d, blocks, &s, &l));
         TIME(t.digits, base_write(BASE_DIGITS, side, levels, p, area, c, blocks, text, TETROLET_MAX_SHEET, &length));
         TIME(t.printed, base_write(BASE_PRINTF, side, levels, p, area, c, blocks, text, TETROLET_MAX_SHEET, &length));
         TIME(t.write, tetrolet_write(side, levels, p, area, c, blocks, text, TETROLET_MAX_SHEET, &length));
@@ -220,6 +225,8 @@ int main(int argc, char **argv)
     line("write", t.write, "digits", t.digits, 1.5);
     line("write", t.write, "snprintf", t.printed, 0);
     line("read", t.read, "plain", t.base_read, 1.5);
+    line("write kept", t.kept_write, "digits", t.kept_digits, 1.5);
+    line("read kept", t.kept_read, "plain", t.kept_base_read, 1.5);
 
     printf("\ngrowth with the side, all levels, library, milliseconds (nanoseconds for each sample)\n");
     printf("%5s  %17s  %17s  %17s  %17s  %17s\n", "side", "decompose", "restore", "keep", "write", "read");

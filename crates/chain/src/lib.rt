@@ -7,7 +7,7 @@ use refusals::Answer;
 use refusals::Counted;
 
 // Decomposes, keeps and restores; gives the number of tetrolet entries left, or the refusal of the first of the three calls that is refused.
-// Two wrong answers that the contract rules out: the numerators of the plane before keep; a plane other than that of least distance with as many entries.
+// Two wrong answers that the contract rules out: the numerators of the plane before keep; a plane without entries, as if the quota were 0.
 pub fn decompose_keep_restore(
     side: usize,
     levels: usize,

@@ -98,8 +98,8 @@ pub fn read(text: &[u8], plane: &mut [i64], coverings: &mut [u8]) -> Reading
     Reading::Sheet { side, levels }
 }
 
-// Writes the usage list of any coverings, and gives its length. Two wrong answers that the contract rules out: two lines for one covering; and a line
-// with the count 0.
+// Writes the usage list of any coverings, and gives its length. Two wrong answers that the contract rules out: a line with the count 0; and refusal 3 for
+// 21,845 coverings.
 pub fn usage(coverings: &[u8], buffer: &mut [u8]) -> Counted
     ensures { λ r. ⌜ UsageAnswered (now (coverings .entry)) (now (buffer .entry)) (now (buffer .exit)) (countedOf r) (countOf r) ⌝ }
 {

@@ -6,6 +6,7 @@ ghost use lib.IntN.{natAbs};
 ghost use Rattle.text.specs.Text.{limit};
 ghost use lib.ListN.{length};
 ghost use Rattle.pyramid.specs.Places.{planePlaces};
+ghost use Rattle.pyramid.specs.Ranges.{fitsRange};
 ghost use Rattle.pyramid.specs.Sides.{isSide, isDepth};
 ghost use Rattle.text.specs.Lines.{linesAt, fiveAt, fivesAt};
 ghost use Rattle.text.proofs.Many.{five};
@@ -91,6 +92,17 @@ fn read_on(s: &[u8], at: usize, line: LineOfFive, next: usize) -> LineOfFive
     text::lines::read_five(s, next)
 }
 
+// Whether a value is in its range. 0 always is, and after keep most places have no line.
+fn fits_here(levels: u32, k: Walk, v: i64) -> bool
+    requires { ⌜ (levels ≤ 9) × (1 ≤ k .level) × (k .level ≤ 9) ⌝ }
+    ensures { λ r. ⌜ r ≡ fitsRange levels (entryOf k) v ⌝ }
+{
+    if v == 0 {
+        return true;
+    }
+    places::checks::fits_range(levels, k, v)
+}
+
 // Whether two tests hold.
 pub fn both(a: bool, b: bool) -> bool
     ensures { λ r. ⌜ r ≡ (a && b) ⌝ }
@@ -124,7 +136,7 @@ pub fn look_along(s: &[u8], at: usize, side: u32, levels: u32) -> Survey
     while 0 < k.left {
         let h = look(s, p, line, k);
         let v = h.value;
-        let fits = places::checks::fits_range(levels, k, v);
+        let fits = fits_here(levels, k, v);
         fitting = both(fitting, fits);
         rising = both(rising, !h.zero);
         line = read_on(s, p, line, h.next);

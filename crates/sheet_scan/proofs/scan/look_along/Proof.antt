@@ -36,13 +36,13 @@ abbrev μ-loop : tie.MeasureT-loop
 μ-loop s at side levels k₀ p₀ line₀ rising₀ fitting₀ k p line rising fitting = length (entriesLeft k)
 
 -- what was tested is what the lines say of the present place
-tested : (c : tie.After-fits-range Inv-loop μ-loop) → let a = c .before .before .before .before .before .before .before .before .before .args in let l = c .before .before .before .before .before .loop in
-    c .fits-range .result ≡ fitsRange (a .levels) (entryOf (l .k)) (valueHere (entryOf (l .k)) (linesAt five (a .s .now) (l .p)))
+tested : (c : tie.After-fits-here Inv-loop μ-loop) → let a = c .before .before .before .before .before .before .before .before .before .args in let l = c .before .before .before .before .before .loop in
+    c .fits-here .result ≡ fitsRange (a .levels) (entryOf (l .k)) (valueHere (entryOf (l .k)) (linesAt five (a .s .now) (l .p)))
 tested c =
     let a = c .before .before .before .before .before .before .before .before .before .args in
     let l = c .before .before .before .before .before .loop in
     let h = c .before .before .look in
-    c .fits-range .ensures ∙ ap (fitsRange (a .levels) (entryOf (l .k))) (toZ-ofZ {w = w64} (sfits (h .result .value) (h .ensures .3)) ∙ h .ensures .0)
+    c .fits-here .ensures ∙ ap (fitsRange (a .levels) (entryOf (l .k))) (toZ-ofZ {w = w64} (sfits (h .result .value) (h .ensures .3)) ∙ h .ensures .0)
 
 first-entry-requires : tie.Need-first-entry-requires Inv-loop μ-loop
 first-entry-requires c κs = (c .before .pre .0, c .before .pre .1)
@@ -60,8 +60,8 @@ loop-holds c =
 look-requires : tie.Need-look-requires Inv-loop μ-loop
 look-requires c κs = c .before .before .loop .inv .5
 
-fits-range-requires : tie.Need-fits-range-requires Inv-loop μ-loop
-fits-range-requires c κs =
+fits-here-requires : tie.Need-fits-here-requires Inv-loop μ-loop
+fits-here-requires c κs =
     let s = c .before .before .before .before .before .before .before .before in
     let q = passed (s .args .side) (s .args .levels) (s .pre .0) (s .pre .1) in
     let i = c .before .before .before .before .loop .inv .0 in
@@ -97,7 +97,7 @@ loop-again c =
       h .ensures .5 (l .inv .1),
       h .ensures .4 ∙ l .inv .2,
       some-again p t (entriesLeft (l .k)) rs rs′ (l .rising) (h .result .zero) (c .before .before .both2 .result) e (h .ensures .2) (c .before .before .both2 .ensures) (h .ensures .1) ∙ l .inv .3,
-      fit-again (a .levels) p t (entriesLeft (l .k)) rs rs′ (l .fitting) (m .fits-range .result) (c .before .before .before .before .both .result) e (h .ensures .2) (c .before .before .before .before .both .ensures) (tested m) ∙ l .inv .4,
+      fit-again (a .levels) p t (entriesLeft (l .k)) rs rs′ (l .fitting) (m .fits-here .result) (c .before .before .before .before .both .result) e (h .ensures .2) (c .before .before .before .before .both .ensures) (tested m) ∙ l .inv .4,
       c .before .read-on .ensures,
     )
 
@@ -153,7 +153,7 @@ look-along-spec =
     read-five-requires
     loop-holds
     look-requires
-    fits-range-requires
+    fits-here-requires
     both-requires
     both-requires-2
     read-on-requires
