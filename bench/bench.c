@@ -225,8 +225,8 @@ int main(int argc, char **argv)
     line("write", t.write, "digits", t.digits, 1.5);
     line("write", t.write, "snprintf", t.printed, 0);
     line("read", t.read, "plain", t.base_read, 1.5);
-    line("write kept", t.kept_write, "digits", t.kept_digits, 1.5);
-    line("read kept", t.kept_read, "plain", t.kept_base_read, 1.5);
+    line("write kept", t.kept_write, "digits", t.kept_digits, 0);
+    line("read kept", t.kept_read, "plain", t.kept_base_read, 0);
 
     printf("\ngrowth with the side, all levels, library, milliseconds (nanoseconds for each sample)\n");
     printf("%5s  %17s  %17s  %17s  %17s  %17s\n", "side", "decompose", "restore", "keep", "write", "read");
