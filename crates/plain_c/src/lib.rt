@@ -45,11 +45,26 @@ pub extern "C" fn plain_restore(
     samples: &mut [u16],
     scratch: &mut [i64],
 ) -> u32 {
-    plain::pyramid::restore(words, side, levels, plane, coverings, scratch, numerators, samples)
+    plain::pyramid::restore(
+        words,
+        side,
+        levels,
+        plane,
+        coverings,
+        scratch,
+        numerators,
+        samples,
+    )
 }
 
 #[no_mangle]
-pub extern "C" fn plain_keep(side: usize, levels: usize, plane: &mut [i64], quota: u64, left: &mut usize) -> u32 {
+pub extern "C" fn plain_keep(
+    side: usize,
+    levels: usize,
+    plane: &mut [i64],
+    quota: u64,
+    left: &mut usize,
+) -> u32 {
     told(plain::cut::keep(side, levels, plane, quota), left)
 }
 
@@ -73,7 +88,10 @@ pub extern "C" fn plain_write(
     buffer: &mut [u8],
     length: &mut usize,
 ) -> u32 {
-    told(plain_text::writing::write(side, levels, plane, coverings, buffer), length)
+    told(
+        plain_text::writing::write(side, levels, plane, coverings, buffer),
+        length,
+    )
 }
 
 #[no_mangle]

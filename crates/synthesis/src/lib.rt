@@ -57,7 +57,11 @@ fn merge_block(
 {
     let begin = grid::starts(height, tall, wide, i, j);
     let results = results_of(image, height, begin, weight);
-    let values = kernel::transform::inverse(cells, coverings[first + (j * (tall / 4) + i)], results);
+    let values = kernel::transform::inverse(
+        cells,
+        coverings[first + (j * (tall / 4) + i)],
+        results,
+    );
     grid::put_cells(out, height, j * 4 * height + i * 4, values);
 }
 
