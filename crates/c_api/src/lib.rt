@@ -1,5 +1,6 @@
 // The entries for callers in C, C++ and Rust: numbers and slices only, each answer as its refusal number, 0 where the call is accepted. A slice passes as a
-// pointer and a count of its elements. The contracts are those of the entries below; include/tetrolet.h has the declarations.
+// pointer and a count of its elements. The contracts are those of the entries below; include/tetrolet.h has the declarations. Two wrong answers that the
+// contracts rule out besides: side and levels in each other's place; and a number that a refused call sets to 0.
 ghost use mathlib.Core.Path.{_≡_};
 ghost use Rattle.refusals.specs.Refusal.{afterCall};
 ghost use Rattle.sheet.specs.Write.{WriteAnswered};
