@@ -25,8 +25,7 @@ use Rattle.sheet_scan.specs.Scan.{valueHere, linesPast, storedAlong, fitAlong, 
 use Rattle.sheet_text.specs.Sheet.{isSome, listIn, rowsOf, sideIn, levelsIn, saidCoverings, saidValues, coveringsIn, planeIn}
 use Rattle.sheet_scan.specs.Parts.{LaidOut}
 use Rattle.sheet_scan.specs.declared.check.Layout.{Layout}
-use Rattle.text.specs.Lines.{linesAt}
-use Rattle.text.proofs.Many.{four, five}
+use Rattle.text.specs.Lines.{four, five, linesAt}
 use Rattle.sheet.specs.Read.{ReadAnswered}
 use Rattle.sheet_text.proofs.Each.{Each}
 use Rattle.sheet_text.proofs.Spread.{length-spread, values-spread, spread-values}

@@ -12,7 +12,8 @@ use lib.IntN.{ℤ}
 use lib.ListN.{length, drop, length-drop, drop-of-length-le, getD}
 use Rattle.text.specs.Bytes.{bytes}
 use Rattle.text.specs.Text.{Parsed, bad, got, andThen, plain, signed, row, rows, times, skip, section, sections, whole, parse, any}
-use Rattle.text.proofs.Many.{two, four, five, SkipRead, RowRead, RowsRead, TwoLine, lines-read}
+use Rattle.text.specs.Lines.{two, four, five}
+use Rattle.text.proofs.Many.{SkipRead, RowRead, RowsRead, TwoLine, lines-read}
 use Rattle.pyramid.specs.Sides.{isSide, isDepth}
 use Rattle.sheet_text.specs.Forms.{sheetForm}
 use Rattle.text.specs.declared.lines.Two.{Two}

@@ -7,8 +7,7 @@ use lib.ListN.{getD}
 use Rattle.integers.specs.Lists.{every}
 use Rattle.coverings.specs.Entry.{isNumber}
 use Rattle.text.specs.Text.{parse}
-use Rattle.text.specs.Lines.{linesAt}
-use Rattle.text.proofs.Many.{four, five}
+use Rattle.text.specs.Lines.{four, five, linesAt}
 use Rattle.sheet_scan.specs.declared.check.Layout.{Layout}
 use Rattle.sheet_scan.specs.declared.check.Found.{Found}
 use Rattle.sheet_scan.specs.declared.check.Found.the-variants.{At, Bad}
@@ -29,6 +28,7 @@ pub record Surveyed (t : List ℕ) (at n R : ℕ) (r f : Bool) : Type 0 where
   pub rising : isSide n ≡ true → isDepth R n n ≡ true → r ≡ isSome (valuesOf (planePlaces R n n) (linesAt five t at))
   pub fitting : isSide n ≡ true → isDepth R n n ≡ true → f ≡ fitAlong R (planePlaces R n n) (linesAt five t at)
 
+-- What is found in a text that keeps the line rules: what its header says, where the lines of blocks and entries begin, and what was found of them.
 pub record LaidOut (t : List ℕ) (l : Layout) : Type 0 where
   pub keeps : isSome (parse sheetForm t) ≡ true
   pub side : sideIn (rowsOf t) ≡ l .side
@@ -38,6 +38,7 @@ pub record LaidOut (t : List ℕ) (l : Layout) : Type 0 where
   pub tiled : Tiled t (l .blocks) (l .side) (l .levels) (l .ordered) (l .numbered)
   pub surveyed : Surveyed t (l .entries) (l .side) (l .levels) (l .rising) (l .fitting)
 
+-- The answer for any text.
 abbrev pub FoundIn : List ℕ → Found → Type 0
 FoundIn t Bad = isSome (parse sheetForm t) ≡ false
 FoundIn t (At l) = LaidOut t l

@@ -14,9 +14,8 @@ use Rattle.integers.specs.Lists.{every}
 use Rattle.refusals.specs.Refusal.{refuseIf}
 use Rattle.coverings.specs.Entry.{isNumber}
 use Rattle.text.specs.Text.{render, parse, Fits, FitsCount, FitsRows, FitsRow, FitsValue, areSections, isSection}
-use Rattle.text.specs.Lines.{cellAt}
+use Rattle.text.specs.Lines.{two, four, five, cellAt}
 use Rattle.text.proofs.Exact.{IsText, parse-sound, parse-text}
-use Rattle.text.proofs.Many.{two, four, five}
 use Rattle.pyramid.specs.Plane.{Image, allBlocks}
 use Rattle.pyramid.specs.Places.{Place, BlockPlace, planePlaces, blockPlaces, at}
 use Rattle.pyramid.specs.Sides.{isSide, isDepth, isPlane, isCoverings}

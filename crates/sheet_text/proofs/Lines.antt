@@ -11,8 +11,7 @@ use lib.IntN.{ℤ, pos, negsuc, natAbs}
 use lib.ListN.{length, getD}
 use Rattle.integers.proofs.Tests.{both-true}
 use Rattle.text.specs.Text.{plain, FitsValue, FitsRow, FitsRows}
-use Rattle.text.specs.Lines.{cellAt}
-use Rattle.text.proofs.Many.{two, four, five}
+use Rattle.text.specs.Lines.{two, four, five, cellAt}
 use Rattle.pyramid.specs.Plane.{Image}
 use Rattle.pyramid.specs.Places.{Place, BlockPlace, at}
 use Rattle.sheet_text.specs.Rows.{isZero, blockRow, entryRow, withRow, blockRows, entryRows, isBlock, isPlace, before, coversOf, valuesOf}

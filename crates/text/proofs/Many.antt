@@ -13,7 +13,7 @@ use Rattle.text.specs.declared.lines.Two.{Two}
 use Rattle.text.specs.declared.lines.LineOfTwo.the-variants.{Of as OfTwo, Bad as NoTwo}
 use Rattle.text.proofs.Exact.{skip-sound}
 use Rattle.text.proofs.Read.{bad-got}
-use Rattle.text.specs.Lines.{twoOf, twoAt, fourOf, fourAt, fiveOf, fiveAt, pastOf, cellAt, linesOf, linesAt}
+use Rattle.text.specs.Lines.{two, four, five, twoOf, twoAt, fourOf, fourAt, fiveOf, fiveAt, pastOf, cellAt, linesOf, linesAt}
 use Rattle.text.specs.declared.lines.Four.{Four}
 use Rattle.text.specs.declared.lines.Five.{Five}
 use Rattle.text.specs.declared.lines.LineOfFour.the-variants.{Of as OfFour, Bad as NoFour}
@@ -68,12 +68,6 @@ pub past-next : (ks : List Column) (s : List ℕ) (p q : ℕ) (v : List ℤ) →
 past-next ks s p q v h e = ap (pastOf (length s)) (rows-one ks (drop p s) v (drop q s) h e) ∙ past-cons (length s) v (rows any ks (drop q s))
 
 -- ---- the answers of `read_four` and `read_five`, as what was read
-
-abbrev pub four : List Column
-four = plain ∷ plain ∷ plain ∷ plain ∷ []
-
-abbrev pub five : List Column
-five = plain ∷ plain ∷ plain ∷ plain ∷ signed ∷ []
 
 pub record RowRead (ks : List Column) (s : List ℕ) (at next : ℕ) : Type 0 where
   pub cells : List ℤ
@@ -154,9 +148,6 @@ skip-no n (got u r) e = absurd (let z : _≡_ {A = ℕ} 0 1 = cc in omega arith)
 
 pub skip-none : (ns s : List ℕ) (at : ℕ) → skipAt s at ns ≡ NotThere → skip ns (drop at s) ≡ bad
 skip-none ns s at e = skip-no (length s) (skip ns (drop at s)) e
-
-abbrev pub two : List Column
-two = plain ∷ plain ∷ []
 
 two-got : (s : List ℕ) (at : ℕ) (o : Parsed (List ℤ)) (f : Two) → row two (drop at s) ≡ o → twoOf (length s) o ≡ OfTwo f → RowRead two s at (f .next)
 two-got s at bad f h e = absurd (let z : _≡_ {A = ℕ} 0 1 = cc in omega arith)

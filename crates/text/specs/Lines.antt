@@ -11,6 +11,16 @@ use Rattle.text.specs.declared.lines.LineOfFour.the-variants.{Of as OfFo
 use Rattle.text.specs.declared.lines.LineOfFive.{LineOfFive}
 use Rattle.text.specs.declared.lines.LineOfFive.the-variants.{Of as OfFive, Bad as NoFive}
 
+-- What the columns of these lines may hold: a minus in the last of five alone.
+abbrev pub two : List Column
+two = plain ∷ plain ∷ []
+
+abbrev pub four : List Column
+four = plain ∷ plain ∷ plain ∷ plain ∷ []
+
+abbrev pub five : List Column
+five = plain ∷ plain ∷ plain ∷ plain ∷ signed ∷ []
+
 abbrev pub cellAt : List ℤ → ℕ → ℕ
 cellAt r i = natAbs (getD r i (pos 0))
 
@@ -19,14 +29,14 @@ twoOf n bad = NoTwo
 twoOf n (got v r) = OfTwo (record { first = cellAt v 0; second = cellAt v 1; next = n - length r })
 
 abbrev pub twoAt : List ℕ → ℕ → LineOfTwo
-twoAt s at = twoOf (length s) (row (plain ∷ plain ∷ []) (drop at s))
+twoAt s at = twoOf (length s) (row two (drop at s))
 
 abbrev pub fourOf : ℕ → Parsed (List ℤ) → LineOfFour
 fourOf n bad = NoFour
 fourOf n (got v r) = OfFour (record { first = cellAt v 0; second = cellAt v 1; third = cellAt v 2; fourth = cellAt v 3; next = n - length r })
 
 abbrev pub fourAt : List ℕ → ℕ → LineOfFour
-fourAt s at = fourOf (length s) (row (plain ∷ plain ∷ plain ∷ plain ∷ []) (drop at s))
+fourAt s at = fourOf (length s) (row four (drop at s))
 
 abbrev pub fiveOf : ℕ → Parsed (List ℤ) → LineOfFive
 fiveOf n bad = NoFive
@@ -34,7 +44,7 @@ fiveOf n (got v r) =
     OfFive (record { first = cellAt v 0; second = cellAt v 1; third = cellAt v 2; fourth = cellAt v 3; value = getD v 4 (pos 0); next = n - length r })
 
 abbrev pub fiveAt : List ℕ → ℕ → LineOfFive
-fiveAt s at = fiveOf (length s) (row (plain ∷ plain ∷ plain ∷ plain ∷ signed ∷ []) (drop at s))
+fiveAt s at = fiveOf (length s) (row five (drop at s))
 
 -- the place past as many lines as there are
 abbrev pub pastOf : ℕ → Parsed (List (List ℤ)) → ℕ
@@ -42,10 +52,10 @@ pastOf n bad = n
 pastOf n (got rs r) = n - length r
 
 abbrev pub foursAt : List ℕ → ℕ → ℕ
-foursAt s at = pastOf (length s) (rows any (plain ∷ plain ∷ plain ∷ plain ∷ []) (drop at s))
+foursAt s at = pastOf (length s) (rows any four (drop at s))
 
 abbrev pub fivesAt : List ℕ → ℕ → ℕ
-fivesAt s at = pastOf (length s) (rows any (plain ∷ plain ∷ plain ∷ plain ∷ signed ∷ []) (drop at s))
+fivesAt s at = pastOf (length s) (rows any five (drop at s))
 
 -- as many lines as there are at a place
 abbrev pub linesOf : Parsed (List (List ℤ)) → List (List ℤ)

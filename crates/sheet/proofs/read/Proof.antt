@@ -10,8 +10,7 @@ use borrow.Author.Tests.{not-true, not-false}
 use native.Mathlib.Nat.{mul-le-mul}
 use Rattle.integers.specs.Lists.{every}
 use Rattle.coverings.specs.Entry.{isNumber}
-use Rattle.text.specs.Lines.{linesAt}
-use Rattle.text.proofs.Many.{four, five}
+use Rattle.text.specs.Lines.{four, five, linesAt}
 use Rattle.pyramid.specs.Plane.{allBlocks}
 use Rattle.pyramid.specs.Places.{planePlaces, blockPlaces}
 use Rattle.pyramid.specs.Sides.{isSide, isDepth}

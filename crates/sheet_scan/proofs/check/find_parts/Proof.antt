@@ -10,7 +10,8 @@ use lib.ListN.{length}
 use Rattle.text.specs.Text.{parse}
 use Rattle.sheet_text.specs.Forms.{sheetForm}
 use Rattle.sheet_text.specs.Sheet.{isSome}
-use Rattle.text.proofs.Many.{TwoLine, two-line, two, four, five, SkipRead, RowRead, RowsRead, skip-at, skip-none, two-at, two-none, rows-at}
+use Rattle.text.specs.Lines.{two, four, five}
+use Rattle.text.proofs.Many.{TwoLine, two-line, SkipRead, RowRead, RowsRead, skip-at, skip-none, two-at, two-none, rows-at}
 use Rattle.sheet_text.proofs.Laws.{laws}
 use Rattle.sheet_scan.proofs.Whole.{N1, N2, N3, no-1, no-2, no-3, no-4, at-end, laid}
 use Rattle.sheet_scan.proofs.check.find_parts.Statement.{statement}

@@ -12,8 +12,8 @@ use mir.Val.{SFits}
 use mir.Syntax.{w64}
 use Rattle.integers.proofs.Signs.{kept, bits-zero, bits-not-zero}
 use Rattle.text.proofs.Signed.{sfits}
-use Rattle.text.specs.Lines.{linesAt, fivesAt, cellAt}
-use Rattle.text.proofs.Many.{five, five-none, lines-stop, FiveLine, five-line, five-at, past-next}
+use Rattle.text.specs.Lines.{five, linesAt, fivesAt, cellAt}
+use Rattle.text.proofs.Many.{five-none, lines-stop, FiveLine, five-line, five-at, past-next}
 use Rattle.sheet_text.specs.Rows.{isPlace}
 use Rattle.places.specs.Walk.{entryOf}
 use Rattle.sheet_text.proofs.Lines.{zero-is}

@@ -9,9 +9,9 @@ use lib.ListN.{length}
 use mir.Syntax.{w64}
 use mir.Val.{toZ, ofZ}
 use mir.Facts.{toZ-ofZ}
-use Rattle.text.specs.Lines.{linesAt, fiveAt, fivesAt}
+use Rattle.text.specs.Lines.{five, linesAt, fiveAt, fivesAt}
 use Rattle.text.proofs.Signed.{sfits}
-use Rattle.text.proofs.Many.{five, five-none, five-line, five-at, lines-stop, past-stop, past-next}
+use Rattle.text.proofs.Many.{five-none, five-line, five-at, lines-stop, past-stop, past-next}
 use Rattle.pyramid.specs.Places.{Place, planePlaces}
 use Rattle.pyramid.specs.Ranges.{fitsRange}
 use Rattle.places.specs.Walk.{Inside, entryAt, entryOf, entriesLeft}

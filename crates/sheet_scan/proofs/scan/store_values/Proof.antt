@@ -10,8 +10,7 @@ use mir.Syntax.{w64}
 use mir.Val.{toZ, ofZ, SFits}
 use mir.Facts.{toZ-ofZ}
 use Rattle.text.proofs.Signed.{sfits}
-use Rattle.text.specs.Lines.{linesAt, fiveAt}
-use Rattle.text.proofs.Many.{five}
+use Rattle.text.specs.Lines.{five, linesAt, fiveAt}
 use Rattle.pyramid.specs.Places.{Place, planePlaces}
 use Rattle.places.specs.Walk.{indexIn, Inside, entryAt, entryOf, entriesLeft}
 use Rattle.sheet_scan.specs.Scan.{valueHere, linesPast, storedAlong}

@@ -9,8 +9,8 @@ use lib.ListN.{length-map, set, length-set, length, getD, drop, length-append}
 use Rattle.integers.specs.Lists.{every}
 use Rattle.integers.proofs.Half.{half, half-store, half-end, half-length}
 use Rattle.coverings.specs.Entry.{isNumber}
-use Rattle.text.specs.Lines.{linesAt, cellAt}
-use Rattle.text.proofs.Many.{four, four-none, FourLine, four-line, lines-stop}
+use Rattle.text.specs.Lines.{four, linesAt, cellAt}
+use Rattle.text.proofs.Many.{four-none, FourLine, four-line, lines-stop}
 use Rattle.pyramid.specs.Places.{BlockPlace, blockPlaces}
 use Rattle.sheet_text.specs.Rows.{coversOf, isBlock}
 use Rattle.sheet_text.specs.Sheet.{isSome}

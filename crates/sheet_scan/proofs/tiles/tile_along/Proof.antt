@@ -8,8 +8,8 @@ use lib.Dec.{eqb}
 use lib.ListN.{length}
 use Rattle.integers.specs.Lists.{every}
 use Rattle.coverings.specs.Entry.{isNumber}
-use Rattle.text.specs.Lines.{linesAt, foursAt}
-use Rattle.text.proofs.Many.{four, FourLine, four-line, four-none, four-at, RowRead, lines-stop, past-stop, past-next}
+use Rattle.text.specs.Lines.{four, linesAt, foursAt}
+use Rattle.text.proofs.Many.{FourLine, four-line, four-none, four-at, RowRead, lines-stop, past-stop, past-next}
 use Rattle.pyramid.specs.Places.{BlockPlace, blockPlaces}
 use Rattle.places.specs.Walk.{Inside, blockAt, blockOf, blocksLeft}
 use Rattle.places.proofs.Steps.{present, ended}

@@ -6,9 +6,9 @@ use native.Mathlib.Omega.{arith}
 use borrow.Author.Needs.{needs}
 use lib.ListN.{length, drop, length-drop}
 use Rattle.text.specs.Text.{rows, any}
-use Rattle.text.specs.Lines.{pastOf}
+use Rattle.text.specs.Lines.{five, pastOf}
 use Rattle.text.proofs.Cursor.{place}
-use Rattle.text.proofs.Many.{five, five-at, five-none, past-next, past-stop, past-end, RowRead}
+use Rattle.text.proofs.Many.{five-at, five-none, past-next, past-stop, past-end, RowRead}
 use Rattle.text.proofs.lines.pass_fives.Statement.{statement}
 use Rattle.text.proofs.lines.pass_fives.Tie as tie
 

@@ -6,9 +6,9 @@ use native.Mathlib.Omega.{arith}
 use borrow.Author.Needs.{needs}
 use lib.ListN.{length, drop, length-drop}
 use Rattle.text.specs.Text.{rows, any}
-use Rattle.text.specs.Lines.{pastOf}
+use Rattle.text.specs.Lines.{four, pastOf}
 use Rattle.text.proofs.Cursor.{place}
-use Rattle.text.proofs.Many.{four, four-at, four-none, past-next, past-stop, past-end, RowRead}
+use Rattle.text.proofs.Many.{four-at, four-none, past-next, past-stop, past-end, RowRead}
 use Rattle.text.proofs.lines.pass_fours.Statement.{statement}
 use Rattle.text.proofs.lines.pass_fours.Tie as tie
 
