@@ -1,0 +1,86 @@
+-- What is proved of the published transform: our coverings are its coverings, our planes are its planes scaled by 2 to the level, and both cuts can be read
+-- off its coefficients. Assumes nothing.
+use mathlib.Core.Path.{_≡_}
+use mathlib.Core.Bool.{cond}
+use mathlib.Core.List.{List, [], _∷_}
+use Prim.Native.Nat.{ℕ, zero, suc, _*_, _-_, _/_, _^_, _<_, _≤_}
+use lib.Dec.{T, leb}
+use lib.IntN.{ℤ, pos, natAbs, _*ℤ_}
+use lib.ListN.{length, getD}
+use Rattle.integers.specs.Lists.{oneOf}
+use Rattle.coverings.specs.Words.{wordOf}
+use Rattle.coverings.specs.Rule.{Number}
+use Rattle.block.specs.Block.{valuesOf, shapesOf, labelsOf, countIn}
+use Rattle.pyramid.specs.Plane.{Image, Fits, blocks, blockOf, after, analyse, listed, covers}
+use Rattle.pyramid.specs.Places.{Place, noPlace, planePlaces, tetroletPlaces, at}
+use Rattle.pyramid.specs.Slices.{imageOf, pictureOf, coversOf, planeOf}
+use Rattle.quota.specs.Quota.{rankOf, ranks, stays, passes, kept, cut}
+use Rattle.published.specs.Example.{Example}
+use Rattle.published.specs.Published.{times, signed, overPiece, half, coefficient, publishedCost, publishedChoice, deviations, publishedBands, publishedAt, publishedCovers, sizes, hard}
+
+-- A statement of each place of a list.
+abbrev pub Each : List Place → (Place → Type 0) → Type 0
+Each l Q = (n : ℕ) → n < length l → Q (getD l n noPlace)
+
+-- No half is rounded: the values that each level works on are even, and in each block twice each coefficient of each covering is the sum that it is half of.
+abbrev pub Exact : ℕ → ℕ → ℕ → (ℕ → ℕ) → Image → Type 0
+Exact zero h w cs A = Unit {0}
+Exact (suc R) h w cs A =
+    ((y x : ℕ) → (z : ℤ) × (A y x ≡ pos 2 *ℤ z))
+    × ((word : List ℕ) (i j l p : ℕ) → l < 4 → pos 2 *ℤ coefficient word (blockOf A i j) l p ≡ signed l (valuesOf (shapesOf word p) (blockOf A i j)))
+    × Exact R (h / 2) (w / 2) (after (blocks h w) cs) (publishedBands h cs A 0)
+
+-- (3.3) and the sentence on ties: c is rightly chosen where n is another. At equal cost n was not chosen more often; if as often, it has no lower number.
+pub record ArgMin (earlier : List ℕ) (v : ℕ → ℤ) (c n : ℕ) : Type 0 where
+  pub lowest : publishedCost (wordOf c) v ≤ publishedCost (wordOf n) v
+  pub often : publishedCost (wordOf c) v ≡ publishedCost (wordOf n) v → countIn n earlier ≤ countIn c earlier
+  pub first : publishedCost (wordOf c) v ≡ publishedCost (wordOf n) v → countIn c earlier ≡ countIn n earlier → c ≤ n
+
+-- R levels by given coverings: P is our plane of the image A, Q the published numbers, in units of 1 / 2 ^ R, by their places. 2 ^ (R - r) times an entry of
+-- ours is that entry in the published units.
+pub record Planes (R h w : ℕ) (P : Image) (Q : Place → ℤ) : Type 0 where
+  -- in these units the published number is 2 ^ (R - r) times ours, the low-pass (level R) once
+  pub scaled : Each (planePlaces R h w) (λ p. Q p ≡ pos (2 ^ (R - p .level)) *ℤ at P p)
+  -- document 01: "a level-r number is 2^r times the paper's"
+  pub toTheLevel : Each (planePlaces R h w) (λ p. pos (2 ^ R) *ℤ at P p ≡ pos (2 ^ p .level) *ℤ Q p)
+  -- a rank is the absolute published coefficient
+  pub rank : Each (tetroletPlaces R h w) (λ p. rankOf R P p ≡ natAbs (Q p))
+  pub ranked : ranks R h w P ≡ sizes R h w Q
+  -- Keep K: a coefficient stays if it is not zero and fewer than K published coefficients go before it, the larger first, then plane order
+  pub keeps : (K n : ℕ) → n < length (tetroletPlaces R h w) → let p = getD (tetroletPlaces R h w) n noPlace in
+      pos (2 ^ (R - p .level)) *ℤ at (kept R h w K P) p ≡ cond (stays K (sizes R h w Q) n) (Q p) (pos 0)
+  -- Cut by T, which is T * 2 ^ R units: a coefficient passes if it is at least T, and what is left is its hard threshold
+  pub threshold : (T : ℕ) → Each (tetroletPlaces R h w) (λ p. passes T P p ≡ leb (T * 2 ^ R) (natAbs (Q p)))
+  pub cuts : (T : ℕ) → Each (tetroletPlaces R h w) (λ p. pos (2 ^ (R - p .level)) *ℤ at (cut R h w T P) p ≡ hard (T * 2 ^ R) (Q p))
+
+-- The slices that decomposing R levels of the picture s gives, beside the published coverings and the published numbers of that picture.
+pub record Slices (R h w : ℕ) (s cs : List ℕ) (Q : Place → ℤ) : Type 0 where
+  pub coverings : coversOf R h w s ≡ cs
+  pub plane : Planes R h w (imageOf h (planeOf R h w s)) Q
+
+-- The four pieces labelled a, b, c and d: each of 0 to 3 is one of them.
+abbrev pub Labelling : ℕ → ℕ → ℕ → ℕ → Type 0
+Labelling a b c d = (a < 4) × (b < 4) × (c < 4) × (d < 4) × ((s : ℕ) → s < 4 → T (oneOf (a ∷ b ∷ c ∷ d ∷ []) s))
+
+pub record PublishedLaws : Type 0 where
+  -- the example of document 000 comes out
+  pub example : Example
+  -- (3.1) and (3.2) to the letter, for each covering
+  pub equations : (n : ℕ) → Number n → (v : ℕ → ℤ) (l p : ℕ) → p < 4 → coefficient (wordOf n) v l p ≡ half (overPiece (wordOf n) v l p)
+  -- step 3: of all labellings none has fewer deviations
+  pub labels : (w : List ℕ) (a b c d : ℕ) → Labelling a b c d → deviations w (labelsOf w) ≤ deviations w (a ∷ b ∷ c ∷ d ∷ [])
+  -- in units of 1 / 2 ^ R, halving at R levels is exact
+  pub exact : (R h w : ℕ) (cs : ℕ → ℕ) (A : Image) → Exact R h w cs (times (2 ^ R) A)
+  -- on even values, which by `exact` they all are, the choice is (3.3) with the rule for ties
+  pub argMin : (earlier : List ℕ) (v : ℕ → ℤ) (n : ℕ) → Number n → let u : ℕ → ℤ = (λ a. pos 2 *ℤ v a) in ArgMin earlier u (publishedChoice earlier u) n
+  -- our coverings are the published ones, our planes the published ones scaled by 2 to the level: of any image, and of the slices that decomposing gives
+  pub sameCoverings : (R h w : ℕ) (A : Image) → publishedCovers R h w (times (2 ^ R) A) ≡ covers R h w A
+  pub samePlanes : (R h w : ℕ) → Fits R h w → (cs : ℕ → ℕ) (A : Image) → Planes R h w (analyse R h w cs A) (publishedAt h w cs (times (2 ^ R) A))
+  pub sameSlices : (R h w : ℕ) → Fits R h w → (s : List ℕ) →
+      let A = times (2 ^ R) (pictureOf h s) in
+      let cs = publishedCovers R h w A in
+      Slices R h w s cs (publishedAt h w (listed cs) A)
+  -- a smaller unit, 1 / 2 ^ N, gives the same coverings and the same numbers in that unit
+  pub anyUnit : (R N h w : ℕ) → R ≤ N → (A : Image) → publishedCovers R h w (times (2 ^ N) A) ≡ covers R h w A
+  pub anyUnitPlane : (R N h w : ℕ) → R ≤ N → Fits R h w → (cs : ℕ → ℕ) (A : Image)
+      → Each (planePlaces R h w) (λ p. publishedAt h w cs (times (2 ^ N) A) p ≡ pos (2 ^ (N - p .level)) *ℤ at (analyse R h w cs A) p)
