@@ -1,13 +1,51 @@
 // The chain of the third demand: decompose, then keep on the plane as left, then restore what keep left, with the coverings that decomposing gave and the
 // side and the levels the same throughout. What it answers and leaves, and the third demand of its own slices, is in specs/Chain.antt.
 ghost use mathlib.Core.Path.{_≡_};
-ghost use Rattle.refusals.specs.Refusal.{countedOf, countOf};
-ghost use Rattle.chain.specs.Chain.{Chained};
+ghost use Rattle.refusals.specs.Refusal.{answerOf, countedOf, countOf};
+ghost use Rattle.chain.specs.Chain.{chainRefusal, Chained};
 use refusals::Answer;
 use refusals::Counted;
+use refusals::Refusal;
 
-// Decomposes, keeps and restores; gives the number of tetrolet entries left, or the refusal of the first of the three calls that is refused.
-// Two wrong answers that the contract rules out: the numerators of the plane before keep; a plane without entries, as if the quota were 0.
+// The checks of the chain, all before its first call: those of decompose, with restore's slices too, then the quota.
+fn chain_checks(
+    side: usize,
+    levels: usize,
+    quota: u64,
+    samples: &[u16],
+    plane: &[i64],
+    coverings: &[u8],
+    numerators: &[i64],
+    restored: &[u16],
+    scratch: &[i64],
+) -> Answer
+    ensures { λ r. ⌜ answerOf r ≡ chainRefusal side levels quota (now (samples .entry)) (now (plane .entry)) (now (coverings .entry)) (now (numerators .entry)) (now (restored .entry)) (now (scratch .entry)) ⌝ }
+{
+    if !places::checks::is_side(side) {
+        return Answer::Refused(Refusal::Side);
+    }
+    if !places::checks::is_depth(levels, side) {
+        return Answer::Refused(Refusal::Depth);
+    }
+    let area = side * side;
+    let blocks = places::checks::count_blocks(levels, side);
+    let framed = ((samples.len() == area)
+        & ((plane.len() == area) & ((coverings.len() == blocks) & (scratch.len() == area))))
+        & ((numerators.len() == area) & (restored.len() == area));
+    if !framed {
+        return Answer::Refused(Refusal::Frame);
+    }
+    if !coder::all_samples(samples) {
+        return Answer::Refused(Refusal::Sample);
+    }
+    if sifting::ranks::most_entries(side as u32, levels as u32) < quota {
+        return Answer::Refused(Refusal::Quota);
+    }
+    Answer::Done
+}
+
+// Decomposes, keeps and restores; gives the number of tetrolet entries left.
+// Two wrong answers that the contract rules out: the numerators of the plane before keep; a plane that is decomposed where the quota is then refused.
 pub fn decompose_keep_restore(
     side: usize,
     levels: usize,
@@ -21,15 +59,24 @@ pub fn decompose_keep_restore(
 ) -> Counted
     ensures { λ r. ⌜ Chained side levels quota (now (samples .entry)) (now (plane .entry)) (now (plane .exit)) (now (coverings .entry)) (now (coverings .exit)) (now (numerators .entry)) (now (numerators .exit)) (now (restored .entry)) (now (restored .exit)) (now (scratch .entry)) (now (scratch .exit)) (countedOf r) (countOf r) ⌝ }
 {
-    let first = coder::decompose(side, levels, samples, plane, coverings, scratch);
-    if let Answer::Refused(r) = first {
+    let found = chain_checks(
+        side,
+        levels,
+        quota,
+        samples,
+        plane,
+        coverings,
+        numerators,
+        restored,
+        scratch,
+    );
+    if let Answer::Refused(r) = found {
         return Counted::Refused(r);
     }
-    let second = keeping::keep(side, levels, plane, quota);
-    let Counted::Count(left) = second else {
-        return second;
-    };
-    let third = coder::restore(
+    // None of the three is refused after these checks.
+    coder::decompose(side, levels, samples, plane, coverings, scratch);
+    let kept = keeping::keep(side, levels, plane, quota);
+    coder::restore(
         side,
         levels,
         plane,
@@ -38,8 +85,5 @@ pub fn decompose_keep_restore(
         restored,
         scratch,
     );
-    if let Answer::Refused(r) = third {
-        return Counted::Refused(r);
-    }
-    Counted::Count(left)
+    kept
 }
