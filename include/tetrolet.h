@@ -43,7 +43,7 @@ enum {
     TETROLET_BENCH = 12       /* cutter: the side is over 32 */
 };
 
-/* The largest counts: samples of an image, coverings of an image, bytes of a sheet, of a usage list, of a sheet of side 32. */
+/* The largest counts: samples of an image, coverings of an image, bytes of a sheet, bytes of a usage list. */
 #define TETROLET_MAX_AREA 262144
 #define TETROLET_MAX_BLOCKS 21845
 #define TETROLET_MAX_SHEET 4772573

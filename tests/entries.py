@@ -2,118 +2,164 @@
 """entries.py FILE: runs the calls of a file of example calls against the proved entries and compares every answer and every lent slice.
 
 FILE is a list of calls {entry, note, args, result | refusal}, as the vectors have them. Run tests/library.sh first.
-A refused call must leave each lent slice as it was; the slices are lent with rubbish in them so that this shows.
+A refused call must leave each lent slice, and each number that is given through a pointer, as it was; both are lent with rubbish in them so that
+this shows. ENTRIES below is the table of the entries: a new one is a row.
 """
-import ctypes, json, os, sys
+import ctypes, json, os, re, sys
 
 root = os.path.dirname(os.path.dirname(os.path.abspath(__file__)))
 lib = ctypes.CDLL(os.path.join(root, "target", "libtetrolet.so"))
-size = ctypes.c_size_t
-KINDS = {"i64": ctypes.c_int64, "u16": ctypes.c_uint16, "u8": ctypes.c_uint8}
+TYPES = {"i64": ctypes.c_int64, "u64": ctypes.c_uint64, "u16": ctypes.c_uint16, "u8": ctypes.c_uint8, "size": ctypes.c_size_t}
+RUBBISH = 0x5A5A
 
 
-class Slice:
-    def __init__(self, kind, values):
-        self.count = len(values)
-        self.data = (KINDS[kind] * max(1, self.count))(*values)
-
-    def args(self):
-        return (self.data, size(self.count))
-
-    def values(self):
-        return [self.data[i] for i in range(self.count)]
-
-
-def call(name, *parts):
-    flat = []
-    for p in parts:
-        flat.extend(p.args() if isinstance(p, Slice) else (p,))
-    f = getattr(lib, name)
-    f.restype = ctypes.c_uint32
-    return f(*flat)
-
-
-def blocks(side, levels):
-    return sum((side >> (r + 2)) ** 2 for r in range(levels)) if 0 < side <= 512 and levels < 10 else 1
+# ---- Lengths of slices that a call does not name
 
 
 def area(side):
     return side * side if side <= 1024 else 16
 
 
+def blocks(side, levels):
+    return sum((side >> (r + 2)) ** 2 for r in range(levels)) if 0 < side <= 512 and levels < 10 else 1
+
+
+def of_area(e):
+    return area(e["args"].get("side", 0))
+
+
+def of_blocks(e):
+    return blocks(e["args"].get("side", 0), e["args"].get("levels", 0))
+
+
+def sheet_frame(e):
+    """The side and the levels that a sheet's second line gives; 4 and 1 where there are none."""
+    m = re.match(r"side levels\n(\d{1,4}) (\d{1,2})\n", e["args"]["text"])
+    return (int(m[1]), int(m[2])) if m else (4, 1)
+
+
+def of_sheet_area(e):
+    return area(sheet_frame(e)[0])
+
+
+def of_sheet_blocks(e):
+    return blocks(*sheet_frame(e))
+
+
+def of_text(e):
+    want = e.get("result", {}).get("tray", "")
+    return len(want) if want else 64
+
+
+# ---- The parameters of an entry
+
+
+class Number:
+    """A number that is passed as it is."""
+
+    def __init__(self, name, kind="size"):
+        self.name, self.kind = name, kind
+
+    def lend(self, e):
+        self.flat = (TYPES[self.kind](e["args"][self.name]),)
+
+    def value(self):
+        return None
+
+
+class Slice:
+    """A slice. With a length it is one that the entry changes, lent with rubbish where the call does not give it."""
+
+    def __init__(self, name, kind, length=None):
+        self.name, self.kind, self.length = name, kind, length
+
+    def lend(self, e):
+        v = e["args"].get(self.name)
+        if v is None:
+            v = [(37 * i + 11) % 97 + 1 for i in range(self.length(e))]
+        v = list(v.encode("latin-1")) if isinstance(v, str) else v
+        self.count = len(v)
+        self.data = (TYPES[self.kind] * max(1, self.count))(*v)
+        self.flat = (self.data, ctypes.c_size_t(self.count))
+        self.before = self.value()
+
+    def value(self):
+        return [self.data[i] for i in range(self.count)] if self.length else None
+
+
+class Text(Slice):
+    """A buffer of bytes, which the results give as a text."""
+
+    def value(self):
+        return bytes(self.data[i] for i in range(self.count)).decode("latin-1")
+
+
+class Given:
+    """A number that the entry gives through a pointer."""
+
+    def __init__(self, name, kind="size"):
+        self.name, self.kind = name, kind
+
+    def lend(self, e):
+        self.data = TYPES[self.kind](RUBBISH)
+        self.flat = (ctypes.byref(self.data),)
+        self.before = self.value()
+
+    def value(self):
+        return self.data.value
+
+
+FRAME = [Number("side"), Number("levels")]
+PLANE, COVERS = Slice("plane", "i64"), Slice("covers", "u8")
+SCRATCH = Slice("scratch", "i64", of_area)
+
+ENTRIES = {
+    "pieces": ("tetrolet_word", [Number("cover", "u8"), Slice("word", "u8", lambda e: 16)]),
+    "decompose": ("tetrolet_decompose", FRAME + [Slice("samples", "u16"), Slice("plane", "i64", of_area), Slice("covers", "u8", of_blocks), SCRATCH]),
+    "restore": ("tetrolet_restore", FRAME + [PLANE, COVERS, Slice("numerators", "i64", of_area), Slice("samples", "u16", of_area), SCRATCH]),
+    "keep": ("tetrolet_keep", FRAME + [Slice("plane", "i64", of_area), Number("quota", "u64"), Given("left")]),
+    "cut": ("tetrolet_threshold", FRAME + [Slice("plane", "i64", of_area), Number("threshold", "u64"), Given("left")]),
+    "write": ("tetrolet_write", FRAME + [PLANE, COVERS, Text("tray", "u8", of_text), Given("length")]),
+    "read": ("tetrolet_read", [Slice("text", "u8"), Slice("plane", "i64", of_sheet_area), Slice("covers", "u8", of_sheet_blocks), Given("side"), Given("levels")]),
+    "usage": ("tetrolet_usage", [COVERS, Text("tray", "u8", of_text), Given("length")]),
+}
+
+
+# ---- Results that are not fixed to the letter
+
+
+def any_order(got, want, length):
+    """A usage list: its lines in any order, and the further bytes as they were."""
+    return sorted(got[:length].split("\n")) == sorted(want[:length].split("\n")) and got[length:] == want[length:]
+
+
+def same(entry, name, got, want):
+    if entry == "usage" and name == "tray":
+        return any_order(got[name], want[name], got["length"])
+    return got[name] == want[name]
+
+
 def run(e):
-    a, kind = e["args"], e["entry"]
-    side, levels = a.get("side", 0), a.get("levels", 0)
-    rubbish = lambda n: [(37 * i + 11) % 97 + 1 for i in range(n)]
-    got, before = {}, {}
-
-    def lend(name, kind, values):
-        s = Slice(kind, values)
-        before[name] = s.values()
-        return s
-
-    if kind == "pieces":
-        word = lend("word", "u8", a.get("word", rubbish(16)))
-        n = call("tetrolet_word", ctypes.c_uint8(a["cover"]), word)
-        out = {"word": word}
-    elif kind == "decompose":
-        samples = Slice("u16", a["samples"])
-        plane = lend("plane", "i64", a.get("plane", rubbish(area(side))))
-        covers = lend("covers", "u8", a.get("covers", rubbish(blocks(side, levels))))
-        scratch = lend("scratch", "i64", a.get("scratch", rubbish(area(side))))
-        n = call("tetrolet_decompose", size(side), size(levels), samples, plane, covers, scratch)
-        out = {"plane": plane, "covers": covers, "scratch": scratch}
-    elif kind == "restore":
-        plane, covers = Slice("i64", a["plane"]), Slice("u8", a["covers"])
-        numerators = lend("numerators", "i64", a.get("numerators", rubbish(area(side))))
-        samples = lend("samples", "u16", a.get("samples", rubbish(area(side))))
-        scratch = lend("scratch", "i64", a.get("scratch", rubbish(area(side))))
-        n = call("tetrolet_restore", size(side), size(levels), plane, covers, numerators, samples, scratch)
-        out = {"numerators": numerators, "samples": samples, "scratch": scratch}
-    elif kind in ("keep", "cut"):
-        plane = lend("plane", "i64", a["plane"])
-        left = size(0)
-        last = a["quota"] if kind == "keep" else a["threshold"]
-        n = call("tetrolet_keep" if kind == "keep" else "tetrolet_threshold", size(side), size(levels), plane, ctypes.c_uint64(last), ctypes.byref(left))
-        out = {"plane": plane, "left": left.value}
-    elif kind in ("write", "usage"):
-        want = e.get("result", {}).get("tray", "")
-        tray = lend("tray", "u8", list(a["tray"].encode("latin-1")) if "tray" in a else rubbish(len(want) if want else 64))
-        length = size(0)
-        covers = Slice("u8", a["covers"])
-        if kind == "write":
-            n = call("tetrolet_write", size(side), size(levels), Slice("i64", a["plane"]), covers, tray, ctypes.byref(length))
-        else:
-            n = call("tetrolet_usage", covers, tray, ctypes.byref(length))
-        out = {"tray": tray, "length": length.value}
-    elif kind == "read":
-        want = e.get("result", {})
-        plane = lend("plane", "i64", a.get("plane", rubbish(len(want.get("plane", [0] * 16)))))
-        covers = lend("covers", "u8", a.get("covers", rubbish(len(want.get("covers", [0])))))
-        s, l = size(0), size(0)
-        n = call("tetrolet_read", Slice("u8", list(a["text"].encode("latin-1"))), plane, covers, ctypes.byref(s), ctypes.byref(l))
-        out = {"plane": plane, "covers": covers, "side": s.value, "levels": l.value}
-    else:
-        return f"no such entry: {kind}"
-    got = {k: v.values() if isinstance(v, Slice) else v for k, v in out.items()}
+    if e["entry"] not in ENTRIES:
+        return f"no such entry: {e['entry']}"
+    name, parameters = ENTRIES[e["entry"]]
+    function = getattr(lib, name)
+    function.restype = ctypes.c_uint32
+    for p in parameters:
+        p.lend(e)
+    n = function(*[x for p in parameters for x in p.flat])
+    changing = [p for p in parameters if p.value() is not None]
+    got = {p.name: p.value() for p in changing}
     if "refusal" in e:
         if n != e["refusal"]:
             return f"answered {n}, not {e['refusal']}"
-        changed = [k for k in before if got[k] != before[k]]
+        changed = [p.name for p in changing if got[p.name] != p.before]
         return f"changed on refusal: {changed}" if changed else None
     if n != 0:
         return f"refused with {n}"
     for k, v in e["result"].items():
-        g = got[k]
-        if k == "tray":
-            g = bytes(g).decode("latin-1")
-            if kind == "usage":
-                cut = got["length"]
-                g, rest, v, vrest = sorted(g[:cut].split("\n")), g[cut:], sorted(v[:cut].split("\n")), v[cut:]
-                if rest != vrest:
-                    return "further bytes of the buffer changed"
-        if g != v:
-            return f"{k} is {g}, not {v}"
+        if not same(e["entry"], k, got, e["result"]):
+            return f"{k} is {got[k]}, not {v}"
     return None
 
 

@@ -109,9 +109,12 @@ static void differ(const char *what)
     exit(1);
 }
 
+/* Refusals are counted by their numbers. */
+#define REFUSALS 32
+
 struct tally {
     const char *name;
-    unsigned long accepted, refused[16], plain;
+    unsigned long accepted, refused[REFUSALS], plain;
 };
 
 /* Whether the plain second implementation, which is slow, is asked too. */
@@ -149,7 +152,7 @@ static void compare(struct tally *t, uint32_t a, uint32_t b)
     if (a == 0)
         t->accepted++;
     else
-        t->refused[a & 15]++;
+        t->refused[a % REFUSALS]++;
 }
 
 static void drop(void)
@@ -585,7 +588,7 @@ int main(int argc, char **argv)
     for (size_t k = 0; k < count; k++) {
         struct tally *t = &entries[k].tally;
         printf("%-10s %8lu accepted; refused:", t->name, t->accepted);
-        for (int n = 1; n < 16; n++)
+        for (int n = 1; n < REFUSALS; n++)
             if (t->refused[n] != 0)
                 printf("  %d: %lu", n, t->refused[n]);
         printf("; beside the second implementation: %lu\n", t->plain);
