@@ -55,8 +55,11 @@ headerText bad = refusalText 9
 headerText (got lines rest) = let h = getD (getD lines 0 []) 0 [] in sizesText (cellAt h 0) (cellAt h 1) (cellAt h 2) rest
 
 -- "Input over 65,536 bytes is 9, before all else."
+abbrev pub inputLimit : ℕ
+inputLimit = 65536
+
 unfoldable pub cutterText : List ℕ → List ℕ
-cutterText t = printIf (ltb 65536 (length t)) 9 (headerText (sections headerForm t))
+cutterText t = printIf (ltb inputLimit (length t)) 9 (headerText (sections headerForm t))
 
 -- A text at the front of a slice: n is its length, and the bytes after it are as they were.
 pub record Printed (t old new : List ℕ) (n : ℕ) : Type 0 where

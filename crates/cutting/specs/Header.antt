@@ -1,19 +1,41 @@
 -- What the code finds of the header at the front of a text. Assumes nothing.
 use mathlib.Core.Path.{_≡_}
+use mathlib.Core.Bool.{true}
 use mathlib.Core.List.{List, [], _∷_}
 use Prim.Native.Nat.{ℕ, _≤_}
 use lib.IntN.{pos}
 use lib.ListN.{length, drop}
-use Rattle.text.specs.Text.{bad, got, sections}
-use Rattle.cutting.specs.Forms.{headerForm}
+use Rattle.refusals.specs.Refusal.{numberOf}
+use Rattle.pyramid.specs.Sides.{isSide, isDepth}
+use Rattle.text.specs.Text.{bad, got, sections, parse}
+use Rattle.cutting.specs.Forms.{headerForm, samplesForm, refusalText}
+use Rattle.cutting.specs.Cutter.{samplesText, cutterText}
 use Rattle.cutting.specs.declared.header.Heading.{Heading}
 use Rattle.cutting.specs.declared.header.Header.{Header}
-use Rattle.cutting.specs.declared.header.Header.the-variants.{Of, Bad}
+use Rattle.cutting.specs.declared.header.Header.the-variants.{Of, Refused}
+
+-- The number of a header that is refused, and 0 of one that is not.
+abbrev pub headerOf : Header → ℕ
+headerOf (Of h) = 0
+headerOf (Refused r) = numberOf r
 
 pub record Headed (t : List ℕ) (h : Heading) : Type 0 where
   pub read : sections headerForm t ≡ got (((pos (h .side) ∷ pos (h .levels) ∷ pos (h .quota) ∷ []) ∷ []) ∷ []) (drop (h .next) t)
   pub within : h .next ≤ length t
 
+-- The line rules alone: "9 on the header".
 abbrev pub HeaderIn : List ℕ → Header → Type 0
-HeaderIn t Bad = sections headerForm t ≡ bad
 HeaderIn t (Of h) = Headed t h
+HeaderIn t (Refused r) = (sections headerForm t ≡ bad) × (numberOf r ≡ 9)
+
+-- A header that passed all checks: what is left to print is what the rows give.
+pub record Passed (t : List ℕ) (h : Heading) : Type 0 where
+  pub sided : isSide (h .side) ≡ true
+  pub small : h .side ≤ 32
+  pub deep : isDepth (h .levels) (h .side) (h .side) ≡ true
+  pub within : h .next ≤ length t
+  pub text : cutterText t ≡ samplesText (h .side) (h .levels) (h .quota) (parse (samplesForm (h .side)) (drop (h .next) t))
+
+abbrev pub Checked : List ℕ → Header → Type 0
+Checked t (Of h) = Passed t h
+Checked t (Refused r) = cutterText t ≡ refusalText (numberOf r)

@@ -1,4 +1,5 @@
 pub mod Forms
 pub mod Cutter
 pub mod Header
+pub mod Pictures
 pub mod Rows

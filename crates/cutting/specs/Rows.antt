@@ -1,12 +1,15 @@
 -- Rows of values stored as the columns of a picture. Assumes nothing.
 use mathlib.Core.Path.{_≡_}
-use mathlib.Core.Bool.{Bool, true, false, cond}
+use mathlib.Core.Bool.{cond}
 use mathlib.Core.List.{List, [], _∷_, map}
 use mathlib.Core.Option.{Option, none, some}
 use Prim.Native.Nat.{ℕ, suc, _+_, _*_}
 use lib.Dec.{leb}
 use lib.IntN.{ℤ, natAbs}
 use lib.ListN.{getD, set, drop}
+use Rattle.refusals.specs.Refusal.{numberOf}
+use Rattle.refusals.specs.declared.Answer.{Answer}
+use Rattle.refusals.specs.declared.Answer.the-variants.{Done, Refused}
 use Rattle.text.specs.Text.{Parsed, bad, got}
 use Rattle.cutting.specs.Cutter.{pictureIn}
 use Rattle.cutting.specs.declared.samples.Past.{Past}
@@ -46,6 +49,7 @@ pub record Stored (n : ℕ) (o : Option (List (List (List ℤ)))) (new : List �
   pub read : o ≡ some lines
   pub samples : new ≡ map heldTo (pictureIn n (getD lines 0 []))
 
-abbrev pub SamplesIn : ℕ → Option (List (List (List ℤ))) → List ℕ → Bool → Type 0
-SamplesIn n o new false = o ≡ none
-SamplesIn n o new true = Stored n o new
+-- "9 on all that follows."
+abbrev pub SamplesIn : ℕ → Option (List (List (List ℤ))) → List ℕ → Answer → Type 0
+SamplesIn n o new Done = Stored n o new
+SamplesIn n o new (Refused r) = (o ≡ none) × (numberOf r ≡ 9)

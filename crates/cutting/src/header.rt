@@ -1,42 +1,77 @@
-// The header of the cutter's input: its first two lines.
-ghost use Rattle.cutting.specs.Header.{HeaderIn};
+// The header of the cutter's input: its first two lines, and the checks on what they say.
+ghost use mathlib.Core.Path.{_≡_};
+ghost use Rattle.cutting.specs.Header.{HeaderIn, Checked, headerOf};
+use refusals::Refusal;
 use text::names::Skip;
 use text::number::Size;
 
 pub struct Heading {
-    pub side: u32,
-    pub levels: u32,
-    pub quota: u32,
+    pub side: usize,
+    pub levels: usize,
+    pub quota: u64,
     // The place past the header.
     pub next: usize,
 }
 
 pub enum Header {
     Of(Heading),
-    // It breaks the line rules.
-    Bad,
+    Refused(Refusal),
+}
+
+// The number of a header that is refused, and 0 of one that is not.
+pub fn code(h: Header) -> u32
+    ensures { λ n. ⌜ n ≡ headerOf h ⌝ }
+{
+    match h {
+        Header::Of(_) => 0,
+        Header::Refused(r) => refusals::number(r) as u32,
+    }
 }
 
 // Reads the header. Two wrong answers that the contract rules out: a header whose last LF is missing; and a quota over 2,147,483,647.
-pub fn read_header(s: &[u8]) -> Header
+fn read_header(s: &[u8]) -> Header
     ensures { λ r. ⌜ HeaderIn (now (s .entry)) r ⌝ }
 {
     let Skip::To(p) = text::names::skip_names(s, 0, b"side levels quota\n") else {
-        return Header::Bad;
+        return Header::Refused(Refusal::Text);
     };
     let Size::Of(side, q) = text::number::read_size(s, p, 32) else {
-        return Header::Bad;
+        return Header::Refused(Refusal::Text);
     };
     let Size::Of(levels, t) = text::number::read_size(s, q, 32) else {
-        return Header::Bad;
+        return Header::Refused(Refusal::Text);
     };
     let Size::Of(quota, next) = text::number::read_size(s, t, 10) else {
-        return Header::Bad;
+        return Header::Refused(Refusal::Text);
     };
     Header::Of(Heading {
-        side,
-        levels,
-        quota,
+        side: side as usize,
+        levels: levels as usize,
+        quota: quota as u64,
         next,
     })
+}
+
+// The header of a text, where it passes all checks that come before the rows: the input's length, "9 on the header (its first two lines), 1 12 2".
+// Two wrong answers that the contract rules out: 2 for a side of 64 with no levels, which is 12; and 9 for an input of just 65,536 bytes.
+pub fn check_header(s: &[u8]) -> Header
+    ensures { λ r. ⌜ Checked (now (s .entry)) r ⌝ }
+{
+    if 65536 < s.len() {
+        return Header::Refused(Refusal::Text);
+    }
+    let found = read_header(s);
+    let Header::Of(h) = found else {
+        return found;
+    };
+    if !places::checks::is_side(h.side) {
+        return Header::Refused(Refusal::Side);
+    }
+    if 32 < h.side {
+        return Header::Refused(Refusal::Bench);
+    }
+    if !places::checks::is_depth(h.levels, h.side) {
+        return Header::Refused(Refusal::Depth);
+    }
+    Header::Of(h)
 }

@@ -5,6 +5,8 @@ ghost use lib.ListN.{length, drop};
 ghost use Rattle.text.specs.Text.{row, times, after, parse};
 ghost use Rattle.cutting.specs.Forms.{plains, samplesForm};
 ghost use Rattle.cutting.specs.Rows.{heldTo, rowOf, rowsOf, passed, SamplesIn};
+use refusals::Answer;
+use refusals::Refusal;
 use text::names::Skip;
 use text::number::Size;
 
@@ -75,18 +77,18 @@ fn read_rows(s: &[u8], at: usize, n: usize, samples: &mut [u16]) -> Past
 
 // Reads the rows of a picture of side n, from the place `at` to the end of the text, and stores them down columns. Two wrong answers that the contract
 // rules out: a picture whose rows are its columns; and a text accepted that goes on after the last row.
-pub fn read_samples(s: &[u8], at: usize, n: usize, samples: &mut [u16]) -> bool
+pub fn read_samples(s: &[u8], at: usize, n: usize, samples: &mut [u16]) -> Answer
     requires { ⌜ (at ≤ length (now s)) × (n ≤ 32) × (length (now samples) ≡ n * n) ⌝ }
     ensures { λ r. ⌜ SamplesIn n (parse (samplesForm n) (drop at (now (s .entry)))) (now (samples .exit)) r ⌝ }
 {
     let Skip::To(p) = text::names::skip_names(s, at, b"samples\n") else {
-        return false;
+        return Answer::Refused(Refusal::Text);
     };
     let Past::To(end) = read_rows(s, p, n, samples) else {
-        return false;
+        return Answer::Refused(Refusal::Text);
     };
     if end < s.len() {
-        return false;
+        return Answer::Refused(Refusal::Text);
     }
-    true
+    Answer::Done
 }

@@ -1,5 +1,5 @@
 -- `cutting::header::read_header` meets its contract. Assumes nothing.
-use mathlib.Core.Path.{_≡_, sym, _∙_}
+use mathlib.Core.Path.{_≡_, refl, sym, _∙_}
 use mathlib.Core.List.{List}
 use Prim.Native.Nat.{ℕ}
 use Rattle.text.specs.At.{sizeAt}
@@ -42,7 +42,7 @@ enum-told : tie.Need-enum-told
 enum-told c = search needs
 
 returns : tie.Need-returns
-returns c = let s = c .before .before .before .before .before .args .s .now in no-names s (skip-none N s 0 (sym (c .before .before .skip-names .ensures) ∙ c .enum-told .given .1))
+returns c = let s = c .before .before .before .before .before .args .s .now in (no-names s (skip-none N s 0 (sym (c .before .before .skip-names .ensures) ∙ c .enum-told .given .1)), refl)
 
 read-size-requires : tie.Need-read-size-requires
 read-size-requires c κs = search needs
@@ -54,7 +54,7 @@ enum-told-2 : tie.Need-enum-told-2
 enum-told-2 c = search needs
 
 returns-2 : tie.Need-returns-2
-returns-2 c = let k = c .before .before .before in no-side (S k) (P k) (s1 k) (sym (c .before .before .read-size .ensures) ∙ c .enum-told2 .given .1)
+returns-2 c = let k = c .before .before .before in (no-side (S k) (P k) (s1 k) (sym (c .before .before .read-size .ensures) ∙ c .enum-told2 .given .1), refl)
 
 read-size-requires-2 : tie.Need-read-size-requires-2
 read-size-requires-2 c κs = search needs
@@ -69,7 +69,7 @@ returns-3 : tie.Need-returns-3
 returns-3 c =
     let j = c .before .before .before in
     let k = j .before .before .before .before in
-    no-levels (S k) (P k) (s1 k) (j .before .side .given .0 .0) (j .before .side .given .0 .1 .0) (s2 j) (sym (c .before .before .read-size2 .ensures) ∙ c .enum-told3 .given .1)
+    (no-levels (S k) (P k) (s1 k) (j .before .side .given .0 .0) (j .before .side .given .0 .1 .0) (s2 j) (sym (c .before .before .read-size2 .ensures) ∙ c .enum-told3 .given .1), refl)
 
 read-size-requires-3 : tie.Need-read-size-requires-3
 read-size-requires-3 c κs = search needs
@@ -84,9 +84,20 @@ returns-4 : tie.Need-returns-4
 returns-4 c =
     let i = c .before .before .before in
     let j = i .before .before .before .before in
-    let k = j .before .before .before .before in
-    no-quota (S k) (P k) (s1 k) (j .before .side .given .0 .0) (j .before .side .given .0 .1 .0) (s2 j) (i .before .levels .given .0 .0) (i .before .levels .given .0 .1 .0) (s3 i)
-    (sym (c .before .before .read-size3 .ensures) ∙ c .enum-told4 .given .1)
+    let k = j .before .before .before .before in (
+      no-quota (S k) (P k) (s1 k) (j .before .side .given .0 .0) (j .before .side .given .0 .1 .0) (s2 j) (i .before .levels .given .0 .0) (i .before .levels .given .0 .1 .0) (s3 i)
+          (sym (c .before .before .read-size3 .ensures) ∙ c .enum-told4 .given .1),
+      refl,
+    )
+
+cast-t20 : tie.Need-cast-t20
+cast-t20 c = search needs
+
+cast-t21 : tie.Need-cast-t21
+cast-t21 c = search needs
+
+cast-t22 : tie.Need-cast-t22
+cast-t22 c = search needs
 
 returns-5 : tie.Need-returns-5
 returns-5 c =
@@ -117,4 +128,7 @@ read-header-spec =
     enum-known-quota
     enum-told-4
     returns-4
+    cast-t20
+    cast-t21
+    cast-t22
     returns-5)

@@ -1,5 +1,5 @@
 -- `cutting::samples::read_samples` meets its contract. Assumes nothing.
-use mathlib.Core.Path.{_≡_, sym, ap, _∙_}
+use mathlib.Core.Path.{_≡_, refl, sym, ap, _∙_}
 use native.Mathlib.Omega.{arith}
 use lib.ListN.{drop, length-drop}
 use Rattle.text.specs.Text.{got, times}
@@ -39,7 +39,7 @@ enum-told : tie.Need-enum-told
 enum-told c = search needs
 
 returns : tie.Need-returns
-returns c = let a = c .before .before .before .before .before .before .args in no-names (a .n) (drop (a .at) (a .s .now)) (skip-none M (a .s .now) (a .at) (sym (c .before .before .skip-names .ensures) ∙ c .enum-told .given .1))
+returns c = let a = c .before .before .before .before .before .before .args in (no-names (a .n) (drop (a .at) (a .s .now)) (skip-none M (a .s .now) (a .at) (sym (c .before .before .skip-names .ensures) ∙ c .enum-told .given .1)), refl)
 
 read-rows-requires : tie.Need-read-rows-requires
 read-rows-requires c κs = let s = c .before .before .before .before .before .before .before .before in (s .pre .1, s .pre .2)
@@ -58,7 +58,7 @@ returns-2 c =
     let r = c .before .before .before .before .read-rows in
     let k = c .before .before .before .before .before .before in
     let a = k .before .before .before .before .before .before .before .args in
-    no-rows (a .n) (drop (a .at) (a .s .now)) (drop (k .before .p .given .0 .0) (a .s .now)) (s1 k .read) (a .samples .now) (ap (λ o. passed o (a .s .now) (r .last .1 .1 .1 .0)) (sym (c .enum-told2 .given .1)) ∙ r .ensures)
+    (no-rows (a .n) (drop (a .at) (a .s .now)) (drop (k .before .p .given .0 .0) (a .s .now)) (s1 k .read) (a .samples .now) (ap (λ o. passed o (a .s .now) (r .last .1 .1 .1 .0)) (sym (c .enum-told2 .given .1)) ∙ r .ensures), refl)
 
 same-length-2 : tie.Need-same-length-2
 same-length-2 c = c .before .before .before .before .before .before .read-rows .kept .1 .1 .1 .0
@@ -68,9 +68,11 @@ returns-3 c =
     let j = c .before in
     let k = j .before .before .before .before .before .before .before in
     let a = k .before .before .before .before .before .before .before .args in
-    let e = j .before .end .given .0 .0 in
-    goes-on (a .n) (drop (a .at) (a .s .now)) (drop (k .before .p .given .0 .0) (a .s .now)) (s1 k .read) (a .samples .now) (j .before .before .before .before .before .read-rows .last .1 .1 .1 .0) (drop e (a .s .now)) (s2 j)
-    (omega (arith, length-drop e (a .s .now), c .if1 .taken))
+    let e = j .before .end .given .0 .0 in (
+      goes-on (a .n) (drop (a .at) (a .s .now)) (drop (k .before .p .given .0 .0) (a .s .now)) (s1 k .read) (a .samples .now) (j .before .before .before .before .before .read-rows .last .1 .1 .1 .0) (drop e (a .s .now)) (s2 j)
+          (omega (arith, length-drop e (a .s .now), c .if1 .taken)),
+      refl,
+    )
 
 same-length-3 : tie.Need-same-length-3
 same-length-3 c = c .before .before .before .before .before .before .read-rows .kept .1 .1 .1 .0
