@@ -15,13 +15,15 @@ use Rattle.refusals.specs.declared.Answer.{Answer}
 use Rattle.refusals.specs.declared.Answer.the-variants.{Done, Refused as Rejected}
 use Rattle.refusals.proofs.After.{number-le}
 use Rattle.text.specs.Text.{parse}
-use Rattle.cutting.specs.Forms.{samplesForm, refusalText}
-use Rattle.cutting.specs.Cutter.{pictureText, pictureIn, samplesText, sizesText, headerText, inputLimit, cutterText, Printed}
-use Rattle.cutting.specs.Header.{headerOf, Headed, HeaderIn, Passed, Checked}
-use Rattle.cutting.specs.Rows.{Stored, SamplesIn}
-use Rattle.cutting.specs.declared.header.Heading.{Heading}
-use Rattle.cutting.specs.declared.header.Header.{Header}
-use Rattle.cutting.specs.declared.header.Header.the-variants.{Of, Refused}
+use Rattle.cutter_text.specs.Forms.{samplesForm}
+use Rattle.cutter_text.specs.Picture.{pictureIn}
+use Rattle.cutting.specs.Cutter.{refusalText, pictureText, samplesText, sizesText, headerText, inputLimit, cutterText, Printed}
+use Rattle.cutter_text.specs.Header.{headerOf, Headed, HeaderIn}
+use Rattle.cutting.specs.Checked.{Passed, Checked}
+use Rattle.cutter_text.specs.Rows.{Stored, SamplesIn}
+use Rattle.cutter_text.specs.declared.header.Heading.{Heading}
+use Rattle.cutter_text.specs.declared.header.Header.{Header}
+use Rattle.cutter_text.specs.declared.header.Header.the-variants.{Of, Refused}
 use Rattle.cutting.proofs.Sheets.{held-text}
 
 pub printed : {x y old new : List ℕ} {m : ℕ} → x ≡ y → Printed y old new m → Printed x old new m

@@ -33,12 +33,11 @@ use Rattle.coder.proofs.Gates.{small-samples}
 use Rattle.keeping.specs.Entries.{keepRefusal, Kept}
 use Rattle.sheet_text.specs.Sheet.{sheetText, writeRefusal}
 use Rattle.sheet.specs.Write.{WriteAnswered}
-use Rattle.cutting.specs.Forms.{refusalText}
-use Rattle.cutting.specs.Cutter.{pictureText, Printed}
+use Rattle.cutting.specs.Cutter.{refusalText, pictureText, Printed}
 use Rattle.cutting.specs.Pictures.{keptText, OfPicture}
-use Rattle.cutting.specs.Rows.{heldTo}
+use Rattle.cutter_text.specs.Rows.{heldTo}
 use Rattle.cutting.proofs.Bounds.{sheet-bound}
-use Rattle.cutting.proofs.Turned.{same-samples, held-same}
+use Rattle.cutting.proofs.Held.{same-samples, held-same}
 
 -- the last check of a call, by its answer
 refused-by : (r : Refusal) (t : Bool) (m : ℕ) → numberOf r ≡ refuseIf t m 0 → (t ≡ true) × (numberOf r ≡ m)

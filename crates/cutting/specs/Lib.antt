@@ -1,5 +1,3 @@
-pub mod Forms
 pub mod Cutter
-pub mod Header
+pub mod Checked
 pub mod Pictures
-pub mod Rows

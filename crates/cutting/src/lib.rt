@@ -1,5 +1,5 @@
-// The cutter: text in, text out. What it prints is `cutterText` of specs/Cutter.antt; specs/Forms.antt has the lines of names. The work space is in here,
-// lent once to the function that works in it. Each checked answer is taken apart by let .. else, and the refusal that came back is printed by its number.
+// The cutter: text in, text out. What it prints is `cutterText` of specs/Cutter.antt; its input is read in `cutter_text`. The work space is in here, lent
+// once to the function that works in it. Each checked answer is taken apart by let .. else, and the refusal that came back is printed by its number.
 ghost use mathlib.Core.Path.{_≡_};
 ghost use mathlib.Core.Bool.{true};
 ghost use Prim.Native.Nat.{ℕ, _*_, _≤_};
@@ -7,15 +7,14 @@ ghost use lib.ListN.{length, drop};
 ghost use Rattle.pyramid.specs.Plane.{allBlocks};
 ghost use Rattle.pyramid.specs.Sides.{isSide, isDepth};
 ghost use Rattle.text.specs.Text.{parse};
-ghost use Rattle.cutting.specs.Forms.{samplesForm, refusalText};
-ghost use Rattle.cutting.specs.Cutter.{pictureText, samplesText, cutterText, Printed};
+ghost use Rattle.cutter_text.specs.Forms.{samplesForm};
+ghost use Rattle.cutting.specs.Cutter.{refusalText, pictureText, samplesText, cutterText, Printed};
+ghost use Rattle.cutting.specs.Checked.{Checked};
 ghost use Rattle.cutting.specs.Pictures.{keptText, OfPicture};
-use header::Header;
+use cutter_text::header::Header;
 use refusals::Answer;
 use refusals::Counted;
-
-mod header;
-mod samples;
+use refusals::Refusal;
 
 fn sample_buffer() -> [u16; 1024]
     ensures { λ r. ⌜ 1024 ≡ length r ⌝ }
@@ -129,11 +128,35 @@ fn print_rows(
     requires { ⌜ (length (now samples) ≡ side * side) × (65536 ≤ length (now out)) ⌝ }
     ensures { λ r. ⌜ Printed (samplesText side levels quota (parse (samplesForm side) (drop at (now (text .entry))))) (now (out .entry)) (now (out .exit)) r ⌝ }
 {
-    let found = samples::read_samples(text, at, side, samples);
+    let found = cutter_text::samples::read_samples(text, at, side, samples);
     let Answer::Done = found else {
         return put_refusal(out, refusals::code(found));
     };
     print_picture(side, levels, quota, samples, out)
+}
+
+// The header of a text, where it passes all checks that come before the rows: the input's length, "9 on the header (its first two lines), 1 12 2".
+// Two wrong answers that the contract rules out: 2 for a side of 64 with no levels, which is 12; and 9 for an input of just 65,536 bytes.
+fn check_header(s: &[u8]) -> Header
+    ensures { λ r. ⌜ Checked (now (s .entry)) r ⌝ }
+{
+    if 65536 < s.len() {
+        return Header::Refused(Refusal::Text);
+    }
+    let found = cutter_text::header::read_header(s);
+    let Header::Of(h) = found else {
+        return found;
+    };
+    if !places::checks::is_side(h.side) {
+        return Header::Refused(Refusal::Side);
+    }
+    if 32 < h.side {
+        return Header::Refused(Refusal::Bench);
+    }
+    if !places::checks::is_depth(h.levels, h.side) {
+        return Header::Refused(Refusal::Depth);
+    }
+    Header::Of(h)
 }
 
 // The cutter on a text: prints at the front of `out`, and gives the length. Two wrong answers that the contract rules out: refusal 2 for a side of 64 with
@@ -141,9 +164,9 @@ fn print_rows(
 pub fn cut(text: &[u8], out: &mut [u8; 65536]) -> usize
     ensures { λ r. ⌜ Printed (cutterText (now (text .entry))) (now (out .entry)) (now (out .exit)) r ⌝ }
 {
-    let found = header::check_header(text);
+    let found = check_header(text);
     let Header::Of(h) = found else {
-        return put_refusal(out, header::code(found));
+        return put_refusal(out, cutter_text::header::code(found));
     };
     let side = h.side;
     let area = side * side;

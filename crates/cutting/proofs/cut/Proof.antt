@@ -4,7 +4,7 @@ use Prim.Native.Nat.{_*_, _≤_}
 use native.Mathlib.Omega.{arith}
 use native.Mathlib.Nat.{mul-le-mul}
 use lib.Seq.{length-take-le}
-use Rattle.cutting.specs.Header.{Passed, Checked}
+use Rattle.cutting.specs.Checked.{Passed, Checked}
 use Rattle.cutting.proofs.Prints.{printed, no-sizes, header-le}
 use borrow.Author.Needs.{needs}
 use Rattle.cutting.proofs.cut.Statement.{statement}

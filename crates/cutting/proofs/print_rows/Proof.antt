@@ -3,7 +3,7 @@ use native.Mathlib.Omega.{arith}
 use lib.ListN.{drop}
 use Rattle.refusals.proofs.After.{answer-le}
 use Rattle.text.specs.Text.{parse}
-use Rattle.cutting.specs.Forms.{samplesForm}
+use Rattle.cutter_text.specs.Forms.{samplesForm}
 use Rattle.cutting.proofs.Prints.{printed, no-rows, some-rows}
 use borrow.Author.Needs.{needs}
 use Rattle.cutting.proofs.print_rows.Statement.{statement}

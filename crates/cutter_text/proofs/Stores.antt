@@ -10,8 +10,8 @@ use Rattle.text.specs.Text.{Parsed, bad, got, andThen, plain, row, times, after
 use Rattle.text.specs.At.{sizeAt}
 use Rattle.text.specs.declared.number.Size.the-variants.{Of, Bad}
 use Rattle.text.proofs.Line.{one, one-bad, last, last-bad}
-use Rattle.cutting.specs.Forms.{plains}
-use Rattle.cutting.specs.Rows.{heldTo, rowIn, rowsIn, rowOf, rowsOf}
+use Rattle.cutter_text.specs.Forms.{plains}
+use Rattle.cutter_text.specs.Rows.{heldTo, rowIn, rowsIn, rowOf, rowsOf}
 
 pub held-small : (v : ℕ) → v ≤ 4095 → v ≡ heldTo v
 held-small v l = rw (le-leb v 4095 l)

@@ -1,4 +1,4 @@
--- `cutting::header::check_header` meets its contract: each end has what the checks before it found. Assumes nothing.
+-- `cutting::check_header` meets its contract: each end has what the checks before it found. Assumes nothing.
 use mathlib.Core.Path.{_≡_, sym, _∙_, subst}
 use mathlib.Core.Bool.{true}
 use Prim.Native.Nat.{_≤_}
@@ -7,11 +7,11 @@ use lib.ListN.{length}
 use borrow.Author.Tests.{not-true, not-false}
 use Rattle.pyramid.specs.Sides.{isSide}
 use Rattle.cutting.specs.Cutter.{inputLimit}
-use Rattle.cutting.specs.Header.{Headed, HeaderIn}
+use Rattle.cutter_text.specs.Header.{Headed, HeaderIn}
 use Rattle.cutting.proofs.Prints.{too-long, no-header, no-side, too-large, no-depth, passes}
 use borrow.Author.Needs.{needs}
-use Rattle.cutting.proofs.header.check_header.Statement.{statement}
-use Rattle.cutting.proofs.header.check_header.Tie as tie
+use Rattle.cutting.proofs.check_header.Statement.{statement}
+use Rattle.cutting.proofs.check_header.Tie as tie
 
 short : (e : tie.Else1) → length (e .before .before .args .s .now) ≤ inputLimit
 short e = omega (arith, e .if1 .left)

@@ -1,14 +1,14 @@
--- `cutting::header::read_header` meets its contract. Assumes nothing.
+-- `cutter_text::header::read_header` meets its contract. Assumes nothing.
 use mathlib.Core.Path.{_≡_, refl, sym, _∙_}
 use mathlib.Core.List.{List}
 use Prim.Native.Nat.{ℕ}
 use Rattle.text.specs.At.{sizeAt}
 use Rattle.text.specs.declared.number.Size.the-variants.{Of}
 use Rattle.text.proofs.Many.{SkipRead, skip-at, skip-none}
-use Rattle.cutting.proofs.Heads.{N, no-names, no-side, no-levels, no-quota, headed}
+use Rattle.cutter_text.proofs.Heads.{N, no-names, no-side, no-levels, no-quota, headed}
 use borrow.Author.Needs.{needs}
-use Rattle.cutting.proofs.header.read_header.Statement.{statement}
-use Rattle.cutting.proofs.header.read_header.Tie as tie
+use Rattle.cutter_text.proofs.header.read_header.Statement.{statement}
+use Rattle.cutter_text.proofs.header.read_header.Tie as tie
 
 slice-aggregate-skip-names : tie.Need-slice-aggregate-skip-names
 slice-aggregate-skip-names c = search needs

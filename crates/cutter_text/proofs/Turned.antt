@@ -1,23 +1,18 @@
 -- Rows stored in turn are the picture, down columns. Assumes nothing.
 use mathlib.Core.Path.{_≡_, refl, sym, ap, _∙_}
-use mathlib.Core.Bool.{Bool, true, false, cond, _&&_}
 use mathlib.Core.List.{List, [], _∷_, map}
 use Prim.Native.Nat.{ℕ, zero, suc, _+_, _*_, _-_, _/_, _%_, _<_, _≤_}
 use native.Mathlib.Omega.{arith}
 use native.Mathlib.Nat.{mod-lt, div-lt-iff-lt-mul, div-add-mod'}
-use lib.Dec.{leb}
 use lib.IntN.{ℤ, pos, natAbs}
 use lib.ListN.{length, getD, set, length-set, length-map, List·getD-map}
 use lib.Seq.{ext-getD, getD-set-same, getD-set-other}
-use Rattle.integers.specs.Lists.{every}
 use Rattle.integers.proofs.Index.{index-bound, column-row, column-col}
 use Rattle.integers.proofs.Tabulate.{length-tabulate, getD-tabulate}
-use Rattle.integers.proofs.Tests.{both-true}
-use Rattle.coder.specs.Entries.{isSample}
 use Rattle.text.specs.Text.{FitsRow, FitsRows}
-use Rattle.cutting.specs.Forms.{plains}
-use Rattle.cutting.specs.Cutter.{sampleAt, pictureIn}
-use Rattle.cutting.specs.Rows.{heldTo, rowIn, rowsIn}
+use Rattle.cutter_text.specs.Forms.{plains}
+use Rattle.cutter_text.specs.Picture.{sampleAt, pictureIn}
+use Rattle.cutter_text.specs.Rows.{heldTo, rowIn, rowsIn}
 
 -- rows of n values
 pub fits-length : (n : ℕ) (r : List ℤ) → FitsRow (plains n) r → length r ≡ n
@@ -120,19 +115,3 @@ turned n rs out e f k =
     ∙ rows-at n 0 (i % n) rs out (i / n) (omega arith) k b (omega arith) (fits-at n rs f)
     ∙ ap heldTo (sym (picture-at n rs i g))
     ∙ sym (List·getD-map heldTo (pictureIn n rs) i 0))
-
--- what is held to 16 bits is a picture just if the picture is, and then it is the same
-pub same-samples : (l : List ℕ) → every isSample (map heldTo l) ≡ every isSample l
-same-samples [] = refl
-same-samples (v ∷ vs) = one v (every isSample (map heldTo vs)) (every isSample vs) (same-samples vs) (leb v 4095) refl
-  where
-    one : (v : ℕ) (a b : Bool) → a ≡ b → (t : Bool) → leb v 4095 ≡ t → (isSample (heldTo v) && a) ≡ (isSample v && b)
-    one v a b h true e = rw (e, e) h
-    one v a b h false e = rw e refl
-
-pub held-same : (l : List ℕ) → every isSample l ≡ true → map heldTo l ≡ l
-held-same [] e = refl
-held-same (v ∷ vs) e =
-    let b = both-true (isSample v) (every isSample vs) e in
-    let s = held-same vs (b .1) in
-    λ i. cond (b .0 i) v 4096 ∷ s i

@@ -1,4 +1,4 @@
--- `cutting::samples::read_row` meets its contract: what is left of the line, stored after what was read, is the whole line stored. Assumes nothing.
+-- `cutter_text::samples::read_row` meets its contract: what is left of the line, stored after what was read, is the whole line stored. Assumes nothing.
 use mathlib.Core.Path.{_≡_, sym, ap, _∙_}
 use Prim.Native.Nat.{ℕ, _+_, _*_, _-_, _<_, _≤_}
 use native.Mathlib.Omega.{arith}
@@ -6,12 +6,12 @@ use native.Mathlib.Nat.{mul-le-mul}
 use lib.ListN.{length, drop, length-set}
 use Rattle.integers.proofs.Index.{index-bound}
 use Rattle.text.specs.Text.{row}
-use Rattle.cutting.specs.Forms.{plains}
-use Rattle.cutting.specs.Rows.{rowOf}
-use Rattle.cutting.proofs.Stores.{row-again, row-stop, row-done}
+use Rattle.cutter_text.specs.Forms.{plains}
+use Rattle.cutter_text.specs.Rows.{rowOf}
+use Rattle.cutter_text.proofs.Stores.{row-again, row-stop, row-done}
 use borrow.Author.Needs.{needs}
-use Rattle.cutting.proofs.samples.read_row.Statement.{statement}
-use Rattle.cutting.proofs.samples.read_row.Tie as tie
+use Rattle.cutter_text.proofs.samples.read_row.Statement.{statement}
+use Rattle.cutter_text.proofs.samples.read_row.Tie as tie
 
 abbrev Inv-loop : tie.InvT-loop
 Inv-loop s at n y samples₀ p₀ x₀ samples p x = (x ≤ n) × (length samples ≡ n * n) × (rowOf n y x samples (row (plains (n - x)) (drop p s)) ≡ rowOf n y 0 samples₀ (row (plains n) (drop at s)))

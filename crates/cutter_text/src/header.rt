@@ -1,6 +1,6 @@
-// The header of the cutter's input: its first two lines, and the checks on what they say.
+// The header of the cutter's input: its first two lines.
 ghost use mathlib.Core.Path.{_≡_};
-ghost use Rattle.cutting.specs.Header.{HeaderIn, Checked, headerOf};
+ghost use Rattle.cutter_text.specs.Header.{HeaderIn, headerOf};
 use refusals::Refusal;
 use text::names::Skip;
 use text::number::Size;
@@ -18,7 +18,7 @@ pub enum Header {
     Refused(Refusal),
 }
 
-// The number of a header that is refused, and 0 of one that is not.
+// The number of a header that is refused, and 0 of one that is not. Two wrong answers that the contract rules out: 0 for a refusal; and the number of another.
 pub fn code(h: Header) -> u32
     ensures { λ n. ⌜ n ≡ headerOf h ⌝ }
 {
@@ -29,7 +29,7 @@ pub fn code(h: Header) -> u32
 }
 
 // Reads the header. Two wrong answers that the contract rules out: a header whose last LF is missing; and a quota over 2,147,483,647.
-fn read_header(s: &[u8]) -> Header
+pub fn read_header(s: &[u8]) -> Header
     ensures { λ r. ⌜ HeaderIn (now (s .entry)) r ⌝ }
 {
     let Skip::To(p) = text::names::skip_names(s, 0, b"side levels quota\n") else {
@@ -50,28 +50,4 @@ fn read_header(s: &[u8]) -> Header
         quota: quota as u64,
         next,
     })
-}
-
-// The header of a text, where it passes all checks that come before the rows: the input's length, "9 on the header (its first two lines), 1 12 2".
-// Two wrong answers that the contract rules out: 2 for a side of 64 with no levels, which is 12; and 9 for an input of just 65,536 bytes.
-pub fn check_header(s: &[u8]) -> Header
-    ensures { λ r. ⌜ Checked (now (s .entry)) r ⌝ }
-{
-    if 65536 < s.len() {
-        return Header::Refused(Refusal::Text);
-    }
-    let found = read_header(s);
-    let Header::Of(h) = found else {
-        return found;
-    };
-    if !places::checks::is_side(h.side) {
-        return Header::Refused(Refusal::Side);
-    }
-    if 32 < h.side {
-        return Header::Refused(Refusal::Bench);
-    }
-    if !places::checks::is_depth(h.levels, h.side) {
-        return Header::Refused(Refusal::Depth);
-    }
-    Header::Of(h)
 }

@@ -1,15 +1,15 @@
--- `cutting::samples::read_rows` meets its contract: what is left of the lines, stored after what was read, is all of them stored. Assumes nothing.
+-- `cutter_text::samples::read_rows` meets its contract: what is left of the lines, stored after what was read, is all of them stored. Assumes nothing.
 use mathlib.Core.Path.{_≡_, sym, ap, _∙_}
 use Prim.Native.Nat.{ℕ, _*_, _-_, _≤_}
 use native.Mathlib.Omega.{arith}
 use lib.ListN.{length, drop}
 use Rattle.text.specs.Text.{times}
-use Rattle.cutting.specs.Forms.{plains}
-use Rattle.cutting.specs.Rows.{rowsOf, passed}
-use Rattle.cutting.proofs.Stores.{rows-again, rows-stop, rows-done}
+use Rattle.cutter_text.specs.Forms.{plains}
+use Rattle.cutter_text.specs.Rows.{rowsOf, passed}
+use Rattle.cutter_text.proofs.Stores.{rows-again, rows-stop, rows-done}
 use borrow.Author.Needs.{needs}
-use Rattle.cutting.proofs.samples.read_rows.Statement.{statement}
-use Rattle.cutting.proofs.samples.read_rows.Tie as tie
+use Rattle.cutter_text.proofs.samples.read_rows.Statement.{statement}
+use Rattle.cutter_text.proofs.samples.read_rows.Tie as tie
 
 abbrev Inv-loop : tie.InvT-loop
 Inv-loop s at n samples₀ p₀ y₀ samples p y = (y ≤ n) × (length samples ≡ n * n) × (rowsOf n y samples (times (n - y) (plains n) (drop p s)) ≡ rowsOf n 0 samples₀ (times n (plains n) (drop at s)))

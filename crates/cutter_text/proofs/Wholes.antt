@@ -9,9 +9,9 @@ use lib.ListN.{length}
 use Rattle.text.specs.Bytes.{bytes}
 use Rattle.text.specs.Text.{Parsed, bad, got, andThen, exactly, rows, times, skip, sections, whole, parse, FitsCount}
 use Rattle.text.proofs.Rows.{rows-sound}
-use Rattle.cutting.specs.Forms.{plains, samplesForm}
-use Rattle.cutting.specs.Rows.{rowsIn, rowsOf, Stored}
-use Rattle.cutting.proofs.Turned.{turned}
+use Rattle.cutter_text.specs.Forms.{plains, samplesForm}
+use Rattle.cutter_text.specs.Rows.{rowsIn, rowsOf, Stored}
+use Rattle.cutter_text.proofs.Turned.{turned}
 
 abbrev pub M : List ℕ
 M = bytes "samples\n"

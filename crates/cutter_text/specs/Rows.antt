@@ -11,9 +11,9 @@ use Rattle.refusals.specs.Refusal.{numberOf}
 use Rattle.refusals.specs.declared.Answer.{Answer}
 use Rattle.refusals.specs.declared.Answer.the-variants.{Done, Refused}
 use Rattle.text.specs.Text.{Parsed, bad, got}
-use Rattle.cutting.specs.Cutter.{pictureIn}
-use Rattle.cutting.specs.declared.samples.Past.{Past}
-use Rattle.cutting.specs.declared.samples.Past.the-variants.{To, Bad}
+use Rattle.cutter_text.specs.Picture.{pictureIn}
+use Rattle.cutter_text.specs.declared.samples.Past.{Past}
+use Rattle.cutter_text.specs.declared.samples.Past.the-variants.{To, Bad}
 
 -- A value in 16 bits: a sample as it is, and 4,096 for any that is over 4,095.
 abbrev pub heldTo : ℕ → ℕ

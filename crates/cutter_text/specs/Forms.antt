@@ -1,9 +1,8 @@
--- The texts that the cutter reads and prints, as sections: a line of names, its columns, and how many lines. Assumes nothing.
-use mathlib.Core.List.{List, [], _∷_, _++_}
+-- The text that the cutter reads, as sections: a line of names, its columns, and how many lines. Assumes nothing.
+use mathlib.Core.List.{List, [], _∷_}
 use Prim.Native.Nat.{ℕ, zero, suc}
 use Rattle.text.specs.Bytes.{bytes}
 use Rattle.text.specs.Text.{Section, Column, plain, exactly}
-use Rattle.text.specs.Write.{cellText}
 
 -- Document 01: "The cutter reads `side levels quota`, one line".
 abbrev pub headerForm : List Section
@@ -17,7 +16,3 @@ plains (suc n) = plain ∷ plains n
 -- Document 01: "`samples`, then under that one name N rows of N values".
 abbrev pub samplesForm : ℕ → List Section
 samplesForm n = record { names = bytes "samples\n"; columns = plains n; count = exactly n } ∷ []
-
--- Document 01: "A refusal prints `refusal`, then the number."
-unfoldable pub refusalText : ℕ → List ℕ
-refusalText n = bytes "refusal\n" ++ cellText n 10

@@ -1,9 +1,9 @@
--- `cutting::samples::hold` meets its contract. Assumes nothing.
+-- `cutter_text::samples::hold` meets its contract. Assumes nothing.
 use native.Mathlib.Omega.{arith}
-use Rattle.cutting.proofs.Stores.{held-small, held-large}
+use Rattle.cutter_text.proofs.Stores.{held-small, held-large}
 use borrow.Author.Needs.{needs}
-use Rattle.cutting.proofs.samples.hold.Statement.{statement}
-use Rattle.cutting.proofs.samples.hold.Tie as tie
+use Rattle.cutter_text.proofs.samples.hold.Statement.{statement}
+use Rattle.cutter_text.proofs.samples.hold.Tie as tie
 
 cast-result : tie.Need-cast-result
 cast-result c = search needs

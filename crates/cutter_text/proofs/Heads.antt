@@ -10,8 +10,8 @@ use Rattle.text.specs.declared.number.Size.the-variants.{Of, Bad}
 use Rattle.text.proofs.Cursor.{size-at}
 use Rattle.text.proofs.Line.{one, one-bad, last, last-bad}
 use Rattle.text.proofs.Many.{SkipRead}
-use Rattle.cutting.specs.Forms.{headerForm}
-use Rattle.cutting.specs.Header.{Headed}
+use Rattle.cutter_text.specs.Forms.{headerForm}
+use Rattle.cutter_text.specs.Header.{Headed}
 
 abbrev pub N : List ℕ
 N = bytes "side levels quota\n"

@@ -1,10 +1,10 @@
--- `cutting::samples::end_of` meets its contract. Assumes nothing.
+-- `cutter_text::samples::end_of` meets its contract. Assumes nothing.
 use Prim.Native.Nat.{_-_}
 use native.Mathlib.Omega.{arith}
-use Rattle.cutting.proofs.Stores.{after-last, after-more}
+use Rattle.cutter_text.proofs.Stores.{after-last, after-more}
 use borrow.Author.Needs.{needs}
-use Rattle.cutting.proofs.samples.end_of.Statement.{statement}
-use Rattle.cutting.proofs.samples.end_of.Tie as tie
+use Rattle.cutter_text.proofs.samples.end_of.Statement.{statement}
+use Rattle.cutter_text.proofs.samples.end_of.Tie as tie
 
 sub-if1 : tie.Need-sub-if1
 sub-if1 c = search needs

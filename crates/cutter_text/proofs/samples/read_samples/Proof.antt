@@ -1,15 +1,15 @@
--- `cutting::samples::read_samples` meets its contract. Assumes nothing.
+-- `cutter_text::samples::read_samples` meets its contract. Assumes nothing.
 use mathlib.Core.Path.{_≡_, refl, sym, ap, _∙_}
 use native.Mathlib.Omega.{arith}
 use lib.ListN.{drop, length-drop}
 use Rattle.text.specs.Text.{got, times}
 use Rattle.text.proofs.Many.{SkipRead, skip-at, skip-none}
-use Rattle.cutting.specs.Forms.{plains}
-use Rattle.cutting.specs.Rows.{passed, rowsOf}
-use Rattle.cutting.proofs.Wholes.{M, no-names, no-rows, goes-on, stored}
+use Rattle.cutter_text.specs.Forms.{plains}
+use Rattle.cutter_text.specs.Rows.{passed, rowsOf}
+use Rattle.cutter_text.proofs.Wholes.{M, no-names, no-rows, goes-on, stored}
 use borrow.Author.Needs.{needs}
-use Rattle.cutting.proofs.samples.read_samples.Statement.{statement}
-use Rattle.cutting.proofs.samples.read_samples.Tie as tie
+use Rattle.cutter_text.proofs.samples.read_samples.Statement.{statement}
+use Rattle.cutter_text.proofs.samples.read_samples.Tie as tie
 
 abbrev K1 : Type 0
 K1 = tie.After-known-told
