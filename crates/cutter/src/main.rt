@@ -19,24 +19,6 @@ fn text_buffer() -> [u8; 65537]
     [0; 65537]
 }
 
-fn sample_buffer() -> [u16; 1024]
-    ensures { λ r. ⌜ 1024 ≡ length r ⌝ }
-{
-    [0; 1024]
-}
-
-fn plane_buffer() -> [i64; 1024]
-    ensures { λ r. ⌜ 1024 ≡ length r ⌝ }
-{
-    [0; 1024]
-}
-
-fn covering_buffer() -> [u8; 85]
-    ensures { λ r. ⌜ 85 ≡ length r ⌝ }
-{
-    [0; 85]
-}
-
 // One read behind the bytes that are there: how many came, 0 at the end of the input.
 fn read_more(text: &mut [u8], done: usize) -> Input
     requires { ⌜ done ≤ length (now text) ⌝ }
@@ -72,18 +54,7 @@ fn main() {
     let Input::Bytes(n) = read_input(&mut text) else {
         return;
     };
-    let mut samples = sample_buffer();
-    let mut plane = plane_buffer();
-    let mut coverings = covering_buffer();
-    let mut scratch = plane_buffer();
     let mut out = io::large_buffer();
-    let size = cutting::cut(
-        &text[..n],
-        &mut samples,
-        &mut plane,
-        &mut coverings,
-        &mut scratch,
-        &mut out,
-    );
+    let size = cutting::cut(&text[..n], &mut out);
     io::write_all(1, &out[..size]);
 }

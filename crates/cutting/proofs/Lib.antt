@@ -1,7 +1,4 @@
-pub mod Heads
-pub mod Stores
-pub mod Turned
-pub mod Wholes
+pub mod Held
 pub mod Bounds
 pub mod Sheets
 pub mod Prints

@@ -9,12 +9,21 @@ use lib.IntN.{ℤ}
 use lib.ListN.{length, getD, drop, length-append}
 use borrow.Author.Tests.{lt-ltb, le-ltb}
 use Rattle.pyramid.specs.Sides.{isSide, isDepth}
-use Rattle.text.specs.Text.{bad, sections, parse}
-use Rattle.cutting.specs.Forms.{headerForm, samplesForm, refusalText}
-use Rattle.cutting.specs.Cutter.{pictureText, pictureIn, samplesText, sizesText, headerText, cutterText, Printed}
-use Rattle.cutting.specs.Header.{Headed}
-use Rattle.cutting.specs.Rows.{Stored}
-use Rattle.cutting.specs.declared.header.Heading.{Heading}
+use Rattle.refusals.specs.Refusal.{numberOf, answerOf}
+use Rattle.refusals.specs.declared.Refusal.{Refusal}
+use Rattle.refusals.specs.declared.Answer.{Answer}
+use Rattle.refusals.specs.declared.Answer.the-variants.{Done, Refused as Rejected}
+use Rattle.refusals.proofs.After.{number-le}
+use Rattle.text.specs.Text.{parse}
+use Rattle.cutter_text.specs.Forms.{samplesForm}
+use Rattle.cutter_text.specs.Picture.{pictureIn}
+use Rattle.cutting.specs.Cutter.{refusalText, pictureText, samplesText, sizesText, headerText, inputLimit, cutterText, Printed}
+use Rattle.cutter_text.specs.Header.{headerOf, Headed, HeaderIn}
+use Rattle.cutting.specs.Checked.{Passed, Checked}
+use Rattle.cutter_text.specs.Rows.{Stored, SamplesIn}
+use Rattle.cutter_text.specs.declared.header.Heading.{Heading}
+use Rattle.cutter_text.specs.declared.header.Header.{Header}
+use Rattle.cutter_text.specs.declared.header.Header.the-variants.{Of, Refused}
 use Rattle.cutting.proofs.Sheets.{held-text}
 
 pub printed : {x y old new : List ℕ} {m : ℕ} → x ≡ y → Printed y old new m → Printed x old new m
@@ -22,13 +31,19 @@ printed {x} {y} {old} {new} {m} e h = subst (λ (t : List ℕ). Printed t old ne
 
 -- the rows
 module _ (n R K : ℕ) (o : Option (List (List (List ℤ)))) where
-  pub no-rows : o ≡ none → samplesText n R K o ≡ refusalText 9
+  none-text : o ≡ none → samplesText n R K o ≡ refusalText 9
   unfolding samplesText
-  no-rows e = rw e
+  none-text e = rw e
 
-  pub some-rows : (new : List ℕ) → Stored n o new → samplesText n R K o ≡ pictureText n R K new
+  pub no-rows : (new : List ℕ) (a : Answer) (r : Refusal) → a ≡ Rejected r → SamplesIn n o new a → (m : ℕ) → m ≡ answerOf a → samplesText n R K o ≡ refusalText m
+  no-rows new a r e h m k = let x = subst (SamplesIn n o new) e h in none-text (x .0) ∙ ap refusalText (sym (k ∙ ap answerOf e ∙ x .1))
+
+  stored-text : (new : List ℕ) → Stored n o new → samplesText n R K o ≡ pictureText n R K new
   unfolding samplesText
-  some-rows new h = ap (samplesText n R K) (h .read) ∙ sym (held-text n R K (pictureIn n (getD (h .lines) 0 []))) ∙ ap (pictureText n R K) (sym (h .samples))
+  stored-text new h = ap (samplesText n R K) (h .read) ∙ sym (held-text n R K (pictureIn n (getD (h .lines) 0 []))) ∙ ap (pictureText n R K) (sym (h .samples))
+
+  pub some-rows : (new : List ℕ) (a : Answer) → a ≡ Done → SamplesIn n o new a → samplesText n R K o ≡ pictureText n R K new
+  some-rows new a e h = stored-text new (subst (SamplesIn n o new) e h)
 
 -- the sizes
 module _ (n R K : ℕ) (rest : List ℕ) where
@@ -50,19 +65,22 @@ module _ (n R K : ℕ) (rest : List ℕ) where
 
 -- the whole
 module _ (t : List ℕ) where
-  pub too-long : 65536 < length t → cutterText t ≡ refusalText 9
+  pub too-long : inputLimit < length t → cutterText t ≡ refusalText 9
   unfolding cutterText
-  too-long l = rw (lt-ltb 65536 (length t) l)
+  too-long l = rw (lt-ltb inputLimit (length t) l)
 
-  module _ (l : length t ≤ 65536) where
-    pub no-header : sections headerForm t ≡ bad → cutterText t ≡ refusalText 9
+  module _ (l : length t ≤ inputLimit) where
+    bad-text : (r : Refusal) → HeaderIn t (Refused r) → cutterText t ≡ refusalText (numberOf r)
     unfolding cutterText headerText
-    no-header e = rw (le-ltb 65536 (length t) l, e)
+    bad-text r e = rw (le-ltb inputLimit (length t) l, e .0, e .1)
+
+    pub no-header : (o : Header) (r : Refusal) → o ≡ Refused r → HeaderIn t o → Checked t o
+    no-header o r e h = subst (Checked t) (sym e) (bad-text r (subst (HeaderIn t) e h))
 
     module _ (h : Heading) (e : Headed t h) where
       sizes : cutterText t ≡ sizesText (h .side) (h .levels) (h .quota) (drop (h .next) t)
       unfolding cutterText headerText
-      sizes = rw (le-ltb 65536 (length t) l, e .read)
+      sizes = rw (le-ltb inputLimit (length t) l, e .read)
 
       pub no-side : isSide (h .side) ≡ false → cutterText t ≡ refusalText 1
       no-side a = sizes ∙ size-1 (h .side) (h .levels) (h .quota) (drop (h .next) t) a
@@ -73,9 +91,16 @@ module _ (t : List ℕ) where
       pub no-depth : isSide (h .side) ≡ true → h .side ≤ 32 → isDepth (h .levels) (h .side) (h .side) ≡ false → cutterText t ≡ refusalText 2
       no-depth a b c = sizes ∙ size-2 (h .side) (h .levels) (h .quota) (drop (h .next) t) a b c
 
-      pub follows : isSide (h .side) ≡ true → h .side ≤ 32 → isDepth (h .levels) (h .side) (h .side) ≡ true
-          → cutterText t ≡ samplesText (h .side) (h .levels) (h .quota) (parse (samplesForm (h .side)) (drop (h .next) t))
-      follows a b c = sizes ∙ size-good (h .side) (h .levels) (h .quota) (drop (h .next) t) a b c
+      pub passes : isSide (h .side) ≡ true → h .side ≤ 32 → isDepth (h .levels) (h .side) (h .side) ≡ true → Passed t h
+      passes a b c =
+          record { sided = a; small = b; deep = c; within = e .within; text = sizes ∙ size-good (h .side) (h .levels) (h .quota) (drop (h .next) t) a b c }
+
+  pub no-sizes : (o : Header) (r : Refusal) → o ≡ Refused r → Checked t o → (m : ℕ) → m ≡ headerOf o → cutterText t ≡ refusalText m
+  no-sizes o r e h m k = subst (Checked t) e h ∙ ap refusalText (sym (k ∙ ap headerOf e))
+
+pub header-le : (o : Header) → headerOf o ≤ 12
+header-le (Of h) = omega arith
+header-le (Refused r) = number-le r
 
 -- what is printed stands in the slice
 pub within : {t old new : List ℕ} {m : ℕ} → Printed t old new m → m ≤ length new

@@ -33,15 +33,15 @@ use Rattle.coder.proofs.Gates.{small-samples}
 use Rattle.keeping.specs.Entries.{keepRefusal, Kept}
 use Rattle.sheet_text.specs.Sheet.{sheetText, writeRefusal}
 use Rattle.sheet.specs.Write.{WriteAnswered}
-use Rattle.cutting.specs.Forms.{refusalText}
-use Rattle.cutting.specs.Cutter.{pictureText, Printed}
-use Rattle.cutting.specs.Rows.{heldTo}
+use Rattle.cutting.specs.Cutter.{refusalText, pictureText, Printed}
+use Rattle.cutting.specs.Pictures.{keptText, OfPicture}
+use Rattle.cutter_text.specs.Rows.{heldTo}
 use Rattle.cutting.proofs.Bounds.{sheet-bound}
-use Rattle.cutting.proofs.Turned.{same-samples, held-same}
+use Rattle.cutting.proofs.Held.{same-samples, held-same}
 
 -- the last check of a call, by its answer
-refused-by : (r : Refusal) (t : Bool) (m : ℕ) → numberOf r ≡ refuseIf t m 0 → t ≡ true
-refused-by r true m e = refl
+refused-by : (r : Refusal) (t : Bool) (m : ℕ) → numberOf r ≡ refuseIf t m 0 → (t ≡ true) × (numberOf r ≡ m)
+refused-by r true m e = (refl, e)
 refused-by r false m e = absurd (never-zero r e)
 
 passed-by : (t : Bool) (m : ℕ) → 0 ≡ refuseIf t (suc m) 0 → t ≡ false
@@ -62,13 +62,16 @@ module _ (n R K : ℕ) (s : List ℕ) where
   unfolding pictureText
   print-4 e = rw e
 
-  print-7 : every isSample s ≡ true → ltb (quotaLimit n R) K ≡ true → pictureText n R K s ≡ refusalText 7
+  print-kept : every isSample s ≡ true → pictureText n R K s ≡ keptText n R K (planeOf R n n s) (coversOf R n n s)
   unfolding pictureText
-  print-7 e h = rw (e, h)
+  print-kept e = rw e
 
-  print-sheet : every isSample s ≡ true → ltb (quotaLimit n R) K ≡ false → pictureText n R K s ≡ sheetText n R (keptOf R n n K (planeOf R n n s)) (coversOf R n n s)
-  unfolding pictureText
-  print-sheet e h = rw (e, h)
+module _ (n R K : ℕ) (p : List ℤ) (c : List ℕ) where
+  print-7 : ltb (quotaLimit n R) K ≡ true → keptText n R K p c ≡ refusalText 7
+  print-7 h = rw h
+
+  print-sheet : ltb (quotaLimit n R) K ≡ false → keptText n R K p c ≡ sheetText n R (keptOf R n n K p) c
+  print-sheet h = rw h
 
 pub held-text : (n R K : ℕ) (s : List ℕ) → pictureText n R K (map heldTo s) ≡ pictureText n R K s
 held-text n R K s = go (every isSample s) refl
@@ -89,10 +92,10 @@ module _ (n R : ℕ) (s : List ℕ) (a : isSide n ≡ true) (b : isDepth R n n �
     decomposes : decomposeRefusal n R s p c q ≡ refuseIf (not (every isSample s)) 4 0
     decomposes = rw (a, b, eq-eqb (length s) (n * n) k, eq-eqb (length p) (n * n) kp, eq-eqb (length c) (allBlocks R n n) kc, eq-eqb (length q) (n * n) kq)
 
-    pub bad-samples : {p′ q′ : List ℤ} {c′ : List ℕ} (r : Refusal) → Decomposed n R s p p′ c c′ q q′ (numberOf r) → every isSample s ≡ false
-    bad-samples r d = is-not (every isSample s) (refused-by r (not (every isSample s)) 4 (d .number ∙ decomposes))
+    bad-samples : {p′ q′ : List ℤ} {c′ : List ℕ} (r : Refusal) → Decomposed n R s p p′ c c′ q q′ (numberOf r) → (every isSample s ≡ false) × (numberOf r ≡ 4)
+    bad-samples r d = let x = refused-by r (not (every isSample s)) 4 (d .number ∙ decomposes) in (is-not (every isSample s) (x .0), x .1)
 
-    pub good-samples : {p′ q′ : List ℤ} {c′ : List ℕ} → Decomposed n R s p p′ c c′ q q′ 0 → every isSample s ≡ true
+    good-samples : {p′ q′ : List ℤ} {c′ : List ℕ} → Decomposed n R s p p′ c c′ q q′ 0 → every isSample s ≡ true
     good-samples d = is-so (every isSample s) (passed-by (not (every isSample s)) 3 (d .number ∙ decomposes))
 
   module _ (g : every isSample s ≡ true) where
@@ -122,63 +125,72 @@ module _ (n R : ℕ) (s : List ℕ) (a : isSide n ≡ true) (b : isDepth R n n �
     keeps : (K : ℕ) → keepRefusal n R P K ≡ refuseIf (ltb (quotaLimit n R) K) 7 0
     keeps K = rw (a, b, eq-eqb (length P) (n * n) (slice-length n n _), ranges)
 
-    pub bad-quota : {p′ : List ℤ} (K : ℕ) (r : Refusal) → Kept n R P p′ K (numberOf r) 0 → ltb (quotaLimit n R) K ≡ true
+    bad-quota : {p′ : List ℤ} (K : ℕ) (r : Refusal) → Kept n R P p′ K (numberOf r) 0 → (ltb (quotaLimit n R) K ≡ true) × (numberOf r ≡ 7)
     bad-quota K r d = refused-by r (ltb (quotaLimit n R) K) 7 (d .number ∙ keeps K)
 
-    pub good-quota : {p′ : List ℤ} (K m : ℕ) → Kept n R P p′ K 0 m → ltb (quotaLimit n R) K ≡ false
+    good-quota : {p′ : List ℤ} (K m : ℕ) → Kept n R P p′ K 0 m → ltb (quotaLimit n R) K ≡ false
     good-quota K m d = passed-by (ltb (quotaLimit n R) K) 6 (d .number ∙ keeps K)
 
-    pub writes : n ≤ 32 → (K : ℕ) (out : List ℕ) → 65536 ≤ length out → writeRefusal n R (keptOf R n n K P) C out ≡ 0
+    writes : n ≤ 32 → (K : ℕ) (out : List ℕ) → 65536 ≤ length out → writeRefusal n R (keptOf R n n K P) C out ≡ 0
     writes l K out h =
         let x = sheet-bound n R (keptOf R n n K P) C a b l in
         rw (a, b, eq-eqb (length (keptOf R n n K P)) (n * n) (slice-length n n _), eq-eqb (length C) (allBlocks R n n) (covers-length R n n (pictureOf n s)), numbers, kept-ranges K, le-ltb (length out) (length (sheetText n R (keptOf R n n K P) C)) (omega arith))
 
--- what the slices and the answers are, at each end of the function
+-- decomposing: the refusal that came back is printed, or what is left to print is what keeping and writing give
 module _ (n R K : ℕ) (s : List ℕ) (a : isSide n ≡ true) (b : isDepth R n n ≡ true) (k : length s ≡ n * n) where
   module _ (p : List ℤ) (c : List ℕ) (q : List ℤ) (kp : length p ≡ n * n) (kc : length c ≡ allBlocks R n n) (kq : length q ≡ n * n) (p′ : List ℤ) (c′ : List ℕ) (q′ : List ℤ) (o : Answer) (d : Decomposed n R s p p′ c c′ q q′ (answerOf o)) where
-    pub end-4 : (r : Refusal) → o ≡ Refused r → (old new : List ℕ) (m : ℕ) → Printed (refusalText 4) old new m → Printed (pictureText n R K s) old new m
-    end-4 r e old new m h =
-        subst (λ (t : List ℕ). Printed t old new m)
-        (sym (print-4 n R K s (bad-samples n R s a b k p c q kp kc kq r (subst (λ (x : Answer). Decomposed n R s p p′ c c′ q q′ (answerOf x)) e d)))) h
+    answered : (x : Answer) → o ≡ x → Decomposed n R s p p′ c c′ q q′ (answerOf x)
+    answered x e = subst (λ (y : Answer). Decomposed n R s p p′ c c′ q q′ (answerOf y)) e d
+
+    pub end-4 : (r : Refusal) → o ≡ Refused r → (m : ℕ) → m ≡ answerOf o → pictureText n R K s ≡ refusalText m
+    end-4 r e m h =
+        let x = bad-samples n R s a b k p c q kp kc kq r (answered (Refused r) e) in
+        print-4 n R K s (x .0) ∙ ap refusalText (sym (h ∙ ap answerOf e ∙ x .1))
 
     module _ (e : o ≡ Done) where
-      done : Decomposed n R s p p′ c c′ q q′ 0
-      done = subst (λ (x : Answer). Decomposed n R s p p′ c c′ q q′ (answerOf x)) e d
-
       good : every isSample s ≡ true
-      good = good-samples n R s a b k p c q kp kc kq done
+      good = good-samples n R s a b k p c q kp kc kq (answered Done e)
 
-      module _ (p″ : List ℤ) (u : Counted) (v : Kept n R p′ p″ K (countedOf u) (countOf u)) where
-        kept : (x : Counted) → u ≡ x → Kept n R (planeOf R n n s) p″ K (countedOf x) (countOf x)
-        kept x h = subst (λ (y : List ℤ). Kept n R y p″ K (countedOf x) (countOf x)) (done .planes) (subst (λ (y : Counted). Kept n R p′ p″ K (countedOf y) (countOf y)) h v)
+      pub decomposed : OfPicture n R p′ c′
+      decomposed = record { samples = s; long = k; good = good; plane = answered Done e .planes; covers = answered Done e .covers }
 
-        pub end-7 : (r : Refusal) → u ≡ Rejected r → (old new : List ℕ) (m : ℕ) → Printed (refusalText 7) old new m → Printed (pictureText n R K s) old new m
-        end-7 r h old new m i =
-            subst (λ (t : List ℕ). Printed t old new m) (sym (print-7 n R K s good (bad-quota n R s a b k good K r (kept (Rejected r) h)))) i
+      pub left : pictureText n R K s ≡ keptText n R K p′ c′
+      left = print-kept n R K s good ∙ (λ i. keptText n R K (sym (answered Done e .planes) i) (sym (answered Done e .covers) i))
 
-        module _ (m₀ : ℕ) (h : u ≡ Count m₀) (l : n ≤ 32) (old new : List ℕ) (room : 65536 ≤ length old) (w : Counted) (z : WriteAnswered n R p″ c′ old new (countedOf w) (countOf w)) where
-          abbrev Q : List ℤ
-          Q = keptOf R n n K (planeOf R n n s)
+-- keeping, and then writing
+module _ (n R K : ℕ) (a : isSide n ≡ true) (b : isDepth R n n ≡ true) (p : List ℤ) (c : List ℕ) (g : OfPicture n R p c) (p′ : List ℤ) (u : Counted) (v : Kept n R p p′ K (countedOf u) (countOf u)) where
+  abbrev Q : List ℤ
+  Q = keptOf R n n K (planeOf R n n (g .samples))
 
-          abbrev D : List ℕ
-          D = coversOf R n n s
+  abbrev D : List ℕ
+  D = coversOf R n n (g .samples)
 
-          accepted : writeRefusal n R Q D old ≡ 0
-          accepted = writes n R s a b k good l K old room
+  kept : (x : Counted) → u ≡ x → Kept n R (planeOf R n n (g .samples)) p′ K (countedOf x) (countOf x)
+  kept x h = subst (λ (y : List ℤ). Kept n R y p′ K (countedOf x) (countOf x)) (g .plane) (subst (λ (y : Counted). Kept n R p p′ K (countedOf y) (countOf y)) h v)
 
-          wrote : (x : Counted) → w ≡ x → WriteAnswered n R Q D old new (countedOf x) (countOf x)
-          wrote x i =
-              subst (λ (y : List ℤ). WriteAnswered n R y D old new (countedOf x) (countOf x)) (kept (Count m₀) h .planes)
-              (subst (λ (y : List ℕ). WriteAnswered n R p″ y old new (countedOf x) (countOf x)) (done .covers) (subst (λ (y : Counted). WriteAnswered n R p″ c′ old new (countedOf y) (countOf y)) i z))
+  pub end-7 : (r : Refusal) → u ≡ Rejected r → (m : ℕ) → m ≡ countedOf u → keptText n R K p c ≡ refusalText m
+  end-7 r h m e =
+      let x = bad-quota n R (g .samples) a b (g .long) (g .good) K r (kept (Rejected r) h) in
+      print-7 n R K p c (x .0) ∙ ap refusalText (sym (e ∙ ap countedOf h ∙ x .1))
 
-          pub end-10 : (r : Refusal) → w ≡ Rejected r → ⊥
-          end-10 r i = never-zero r (wrote (Rejected r) i .number ∙ accepted)
+  module _ (m₀ : ℕ) (h : u ≡ Count m₀) (l : n ≤ 32) (old new : List ℕ) (room : 65536 ≤ length old) (w : Counted) (z : WriteAnswered n R p′ c old new (countedOf w) (countOf w)) where
+    accepted : writeRefusal n R Q D old ≡ 0
+    accepted = writes n R (g .samples) a b (g .long) (g .good) l K old room
 
-          pub end-sheet : (m : ℕ) → w ≡ Count m → Printed (pictureText n R K s) old new m
-          end-sheet m i =
-              let x = wrote (Count m) i in
-              subst (λ (t : List ℕ). Printed t old new m) (sym (print-sheet n R K s good (good-quota n R s a b k good K m₀ (kept (Count m₀) h))))
-              (record {
-                size = x .count ∙ ap (λ (y : ℕ). afterCall y (length (sheetText n R Q D)) 0) accepted;
-                slice = x .slice ∙ ap (λ (y : ℕ). afterCall y (sheetText n R Q D ++ drop (length (sheetText n R Q D)) old) old) accepted;
-              })
+    wrote : (x : Counted) → w ≡ x → WriteAnswered n R Q D old new (countedOf x) (countOf x)
+    wrote x i =
+        subst (λ (y : List ℤ). WriteAnswered n R y D old new (countedOf x) (countOf x)) (kept (Count m₀) h .planes)
+        (subst (λ (y : List ℕ). WriteAnswered n R p′ y old new (countedOf x) (countOf x)) (g .covers) (subst (λ (y : Counted). WriteAnswered n R p′ c old new (countedOf y) (countOf y)) i z))
+
+    pub end-10 : (r : Refusal) → w ≡ Rejected r → ⊥
+    end-10 r i = never-zero r (wrote (Rejected r) i .number ∙ accepted)
+
+    pub end-sheet : (m : ℕ) → w ≡ Count m → Printed (keptText n R K p c) old new m
+    end-sheet m i =
+        let x = wrote (Count m) i in
+        subst (λ (t : List ℕ). Printed t old new m)
+        (sym (print-sheet n R K p c (good-quota n R (g .samples) a b (g .long) (g .good) K m₀ (kept (Count m₀) h)) ∙ (λ j. sheetText n R (keptOf R n n K (g .plane j)) (g .covers j))))
+        (record {
+          size = x .count ∙ ap (λ (y : ℕ). afterCall y (length (sheetText n R Q D)) 0) accepted;
+          slice = x .slice ∙ ap (λ (y : ℕ). afterCall y (sheetText n R Q D ++ drop (length (sheetText n R Q D)) old) old) accepted;
+        })

@@ -3,31 +3,31 @@ use mathlib.Core.Path.{_≡_}
 use mathlib.Core.Bool.{Bool, true, false, not}
 use mathlib.Core.List.{List, [], _++_}
 use mathlib.Core.Option.{Option, none, some}
-use Prim.Native.Nat.{ℕ, _*_, _/_, _%_}
+use Prim.Native.Nat.{ℕ}
 use lib.Dec.{ltb}
 use lib.IntN.{ℤ}
 use lib.ListN.{length, getD, drop}
-use Rattle.integers.specs.Lists.{tabulate, every}
+use Rattle.integers.specs.Lists.{every}
 use Rattle.pyramid.specs.Sides.{isSide, isDepth}
 use Rattle.pyramid.specs.Slices.{planeOf, coversOf}
 use Rattle.quota.specs.Quota.{keptOf, quotaLimit}
 use Rattle.coder.specs.Entries.{isSample}
+use Rattle.text.specs.Bytes.{bytes}
 use Rattle.text.specs.Text.{Parsed, bad, got, sections, parse}
 use Rattle.text.specs.Lines.{cellAt}
+use Rattle.text.specs.Write.{cellText}
 use Rattle.sheet_text.specs.Sheet.{sheetText}
-use Rattle.cutting.specs.Forms.{headerForm, samplesForm, refusalText}
+use Rattle.cutter_text.specs.Forms.{headerForm, samplesForm}
+use Rattle.cutter_text.specs.Picture.{pictureIn}
+
+-- Document 01: "A refusal prints `refusal`, then the number."
+unfoldable pub refusalText : ℕ → List ℕ
+refusalText n = bytes "refusal\n" ++ cellText n 10
 
 -- One check: the refusal with the number m where its condition holds, and else what the further checks give.
 abbrev pub printIf : Bool → ℕ → List ℕ → List ℕ
 printIf true m rest = refusalText m
 printIf false m rest = rest
-
--- "N rows of N values left to right"; samples are "stored down columns", so the one of row y, column x is at x * n + y.
-abbrev pub sampleAt : ℕ → List (List ℤ) → ℕ → ℕ
-sampleAt n rows k = cellAt (getD rows (k % n) []) (k / n)
-
-unfoldable pub pictureIn : ℕ → List (List ℤ) → List ℕ
-pictureIn n rows = tabulate (n * n) (sampleAt n rows)
 
 -- Document 01: "cutter .. 4 7"; and else it "decomposes, keeps, and prints the sheet", here of the picture s.
 unfoldable pub pictureText : ℕ → ℕ → ℕ → List ℕ → List ℕ
@@ -55,8 +55,11 @@ headerText bad = refusalText 9
 headerText (got lines rest) = let h = getD (getD lines 0 []) 0 [] in sizesText (cellAt h 0) (cellAt h 1) (cellAt h 2) rest
 
 -- "Input over 65,536 bytes is 9, before all else."
+abbrev pub inputLimit : ℕ
+inputLimit = 65536
+
 unfoldable pub cutterText : List ℕ → List ℕ
-cutterText t = printIf (ltb 65536 (length t)) 9 (headerText (sections headerForm t))
+cutterText t = printIf (ltb inputLimit (length t)) 9 (headerText (sections headerForm t))
 
 -- A text at the front of a slice: n is its length, and the bytes after it are as they were.
 pub record Printed (t old new : List ℕ) (n : ℕ) : Type 0 where

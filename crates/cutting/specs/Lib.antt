@@ -1,4 +1,3 @@
-pub mod Forms
 pub mod Cutter
-pub mod Header
-pub mod Rows
+pub mod Checked
+pub mod Pictures

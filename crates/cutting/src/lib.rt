@@ -1,4 +1,5 @@
-// The cutter: text in, text out. What it prints is `cutterText` of specs/Cutter.antt; specs/Forms.antt has the lines of names.
+// The cutter: text in, text out. What it prints is `cutterText` of specs/Cutter.antt; its input is read in `cutter_text`. The work space is in here, lent
+// once to the function that works in it. Each checked answer is taken apart by let .. else, and the refusal that came back is printed by its number.
 ghost use mathlib.Core.Path.{_≡_};
 ghost use mathlib.Core.Bool.{true};
 ghost use Prim.Native.Nat.{ℕ, _*_, _≤_};
@@ -6,14 +7,32 @@ ghost use lib.ListN.{length, drop};
 ghost use Rattle.pyramid.specs.Plane.{allBlocks};
 ghost use Rattle.pyramid.specs.Sides.{isSide, isDepth};
 ghost use Rattle.text.specs.Text.{parse};
-ghost use Rattle.cutting.specs.Forms.{samplesForm, refusalText};
-ghost use Rattle.cutting.specs.Cutter.{pictureText, samplesText, cutterText, Printed};
-use header::Header;
+ghost use Rattle.cutter_text.specs.Forms.{samplesForm};
+ghost use Rattle.cutting.specs.Cutter.{refusalText, pictureText, samplesText, cutterText, Printed};
+ghost use Rattle.cutting.specs.Checked.{Checked};
+ghost use Rattle.cutting.specs.Pictures.{keptText, OfPicture};
+use cutter_text::header::Header;
 use refusals::Answer;
 use refusals::Counted;
+use refusals::Refusal;
 
-pub mod header;
-pub mod samples;
+fn sample_buffer() -> [u16; 1024]
+    ensures { λ r. ⌜ 1024 ≡ length r ⌝ }
+{
+    [0; 1024]
+}
+
+fn plane_buffer() -> [i64; 1024]
+    ensures { λ r. ⌜ 1024 ≡ length r ⌝ }
+{
+    [0; 1024]
+}
+
+fn covering_buffer() -> [u8; 85]
+    ensures { λ r. ⌜ 85 ≡ length r ⌝ }
+{
+    [0; 85]
+}
 
 // Prints a refusal.
 fn put_refusal(out: &mut [u8], number: u32) -> usize
@@ -22,6 +41,31 @@ fn put_refusal(out: &mut [u8], number: u32) -> usize
 {
     let p = text::write::put_bytes(out, 0, b"refusal\n");
     text::write::put_cell(out, p, number, 10)
+}
+
+// Keeps, and prints the sheet of what is left of a picture's plane.
+fn print_kept(
+    side: usize,
+    levels: usize,
+    quota: u64,
+    plane: &mut [i64],
+    coverings: &[u8],
+    out: &mut [u8],
+) -> usize
+    requires { ⌜ (isSide side ≡ true) × (isDepth levels side side ≡ true) × (side ≤ 32) ⌝ }
+    requires { ⌜ OfPicture side levels (now plane) (now coverings) × (65536 ≤ length (now out)) ⌝ }
+    ensures { λ r. ⌜ Printed (keptText side levels quota (now (plane .entry)) (now (coverings .entry))) (now (out .entry)) (now (out .exit)) r ⌝ }
+{
+    let kept = keeping::keep(side, levels, plane, quota);
+    let Counted::Count(_) = kept else {
+        return put_refusal(out, refusals::counted_code(kept));
+    };
+    // Refused never: a sheet of side 32 or less has at most 65,536 bytes.
+    let written = sheet::write(side, levels, plane, coverings, out);
+    let Counted::Count(n) = written else {
+        return put_refusal(out, refusals::counted_code(written));
+    };
+    n
 }
 
 // Decomposes a picture, keeps, and prints the sheet.
@@ -40,86 +84,100 @@ fn print_sheet(
     requires { ⌜ (length (now coverings) ≡ allBlocks levels side side) × (65536 ≤ length (now out)) ⌝ }
     ensures { λ r. ⌜ Printed (pictureText side levels quota (now (samples .entry))) (now (out .entry)) (now (out .exit)) r ⌝ }
 {
-    let Answer::Done = coder::decompose(side, levels, samples, plane, coverings, scratch) else {
-        return put_refusal(out, 4);
+    let decomposed = coder::decompose(side, levels, samples, plane, coverings, scratch);
+    let Answer::Done = decomposed else {
+        return put_refusal(out, refusals::code(decomposed));
     };
-    let Counted::Count(_) = keeping::keep(side, levels, plane, quota) else {
-        return put_refusal(out, 7);
-    };
-    // Refused never: a sheet of side 32 or less has at most 65,536 bytes.
-    let Counted::Count(n) = sheet::write(side, levels, plane, coverings, out) else {
-        return put_refusal(out, 10);
-    };
-    n
+    print_kept(side, levels, quota, plane, coverings, out)
+}
+
+// The same, with the work space.
+fn print_picture(side: usize, levels: usize, quota: u64, samples: &[u16], out: &mut [u8]) -> usize
+    requires { ⌜ (isSide side ≡ true) × (isDepth levels side side ≡ true) × (side ≤ 32) ⌝ }
+    requires { ⌜ (length (now samples) ≡ side * side) × (65536 ≤ length (now out)) ⌝ }
+    ensures { λ r. ⌜ Printed (pictureText side levels quota (now (samples .entry))) (now (out .entry)) (now (out .exit)) r ⌝ }
+{
+    let area = side * side;
+    let blocks = places::checks::count_blocks(levels, side);
+    let mut plane = plane_buffer();
+    let mut coverings = covering_buffer();
+    let mut scratch = plane_buffer();
+    print_sheet(
+        side,
+        levels,
+        quota,
+        samples,
+        &mut plane[..area],
+        &mut coverings[..blocks],
+        &mut scratch[..area],
+        out,
+    )
 }
 
 // Reads the rows of a picture from the place `at` on, and prints what becomes of it.
-fn cut_rows(
+fn print_rows(
     text: &[u8],
     at: usize,
     side: usize,
     levels: usize,
     quota: u64,
     samples: &mut [u16],
-    plane: &mut [i64],
-    coverings: &mut [u8],
-    scratch: &mut [i64],
     out: &mut [u8],
 ) -> usize
     requires { ⌜ (isSide side ≡ true) × (isDepth levels side side ≡ true) × (side ≤ 32) × (at ≤ length (now text)) ⌝ }
-    requires { ⌜ (length (now samples) ≡ side * side) × (length (now plane) ≡ side * side) × (length (now scratch) ≡ side * side) ⌝ }
-    requires { ⌜ (length (now coverings) ≡ allBlocks levels side side) × (65536 ≤ length (now out)) ⌝ }
+    requires { ⌜ (length (now samples) ≡ side * side) × (65536 ≤ length (now out)) ⌝ }
     ensures { λ r. ⌜ Printed (samplesText side levels quota (parse (samplesForm side) (drop at (now (text .entry))))) (now (out .entry)) (now (out .exit)) r ⌝ }
 {
-    if !samples::read_samples(text, at, side, samples) {
-        return put_refusal(out, 9);
-    }
-    print_sheet(side, levels, quota, samples, plane, coverings, scratch, out)
+    let found = cutter_text::samples::read_samples(text, at, side, samples);
+    let Answer::Done = found else {
+        return put_refusal(out, refusals::code(found));
+    };
+    print_picture(side, levels, quota, samples, out)
 }
 
-// The cutter on a text: prints at the front of `out`, and gives the length. The other slices are its work space. Two wrong answers that the contract
-// rules out: refusal 2 for a side of 64 with no levels, which is 12; and refusal 7 for a picture with a sample of 4,096, which is 4.
-pub fn cut(
-    text: &[u8],
-    samples: &mut [u16],
-    plane: &mut [i64],
-    coverings: &mut [u8],
-    scratch: &mut [i64],
-    out: &mut [u8],
-) -> usize
-    requires { ⌜ (1024 ≤ length (now samples)) × (1024 ≤ length (now plane)) × (1024 ≤ length (now scratch)) ⌝ }
-    requires { ⌜ (85 ≤ length (now coverings)) × (65536 ≤ length (now out)) ⌝ }
+// The header of a text, where it passes all checks that come before the rows: the input's length, "9 on the header (its first two lines), 1 12 2".
+// Two wrong answers that the contract rules out: 2 for a side of 64 with no levels, which is 12; and 9 for an input of just 65,536 bytes.
+fn check_header(s: &[u8]) -> Header
+    ensures { λ r. ⌜ Checked (now (s .entry)) r ⌝ }
+{
+    if 65536 < s.len() {
+        return Header::Refused(Refusal::Text);
+    }
+    let found = cutter_text::header::read_header(s);
+    let Header::Of(h) = found else {
+        return found;
+    };
+    if !places::checks::is_side(h.side) {
+        return Header::Refused(Refusal::Side);
+    }
+    if 32 < h.side {
+        return Header::Refused(Refusal::Bench);
+    }
+    if !places::checks::is_depth(h.levels, h.side) {
+        return Header::Refused(Refusal::Depth);
+    }
+    Header::Of(h)
+}
+
+// The cutter on a text: prints at the front of `out`, and gives the length. Two wrong answers that the contract rules out: refusal 2 for a side of 64 with
+// no levels, which is 12; and refusal 7 for a picture with a sample of 4,096, which is 4.
+pub fn cut(text: &[u8], out: &mut [u8; 65536]) -> usize
     ensures { λ r. ⌜ Printed (cutterText (now (text .entry))) (now (out .entry)) (now (out .exit)) r ⌝ }
 {
-    if 65536 < text.len() {
-        return put_refusal(out, 9);
-    }
-    let Header::Of(h) = header::read_header(text) else {
-        return put_refusal(out, 9);
+    let found = check_header(text);
+    let Header::Of(h) = found else {
+        return put_refusal(out, cutter_text::header::code(found));
     };
-    let side = h.side as usize;
-    let levels = h.levels as usize;
-    if !places::checks::is_side(side) {
-        return put_refusal(out, 1);
-    }
-    if 32 < side {
-        return put_refusal(out, 12);
-    }
-    if !places::checks::is_depth(levels, side) {
-        return put_refusal(out, 2);
-    }
+    let side = h.side;
     let area = side * side;
-    let blocks = places::checks::count_blocks(levels, side);
-    cut_rows(
+    let mut samples = sample_buffer();
+    print_rows(
         text,
         h.next,
         side,
-        levels,
-        h.quota as u64,
+        h.levels,
+        h.quota,
         &mut samples[..area],
-        &mut plane[..area],
-        &mut coverings[..blocks],
-        &mut scratch[..area],
         out,
     )
 }

@@ -1,7 +1,7 @@
 // Refusals: the numbers of document 01's table "Turned-back work", and the answers that the entries give. A call is answered with its result or
 // with one refusal; specs/Refusal.antt says which number each has, and what a refused call leaves in the slices it was lent: what they held.
 ghost use mathlib.Core.Path.{_≡_};
-ghost use Rattle.refusals.specs.Refusal.{numberOf, answerOf};
+ghost use Rattle.refusals.specs.Refusal.{numberOf, answerOf, countedOf};
 
 // Why a call is refused. Beside each: the table's number and word.
 pub enum Refusal {
@@ -59,5 +59,16 @@ pub fn code(a: Answer) -> u32
     match a {
         Answer::Done => 0,
         Answer::Refused(r) => number(r) as u32,
+    }
+}
+
+// The number of an answer with a count: 0 where the call is accepted.
+// Two wrong answers that the contract rules out: 0 for a refusal; and the count of an accepted call.
+pub fn counted_code(c: Counted) -> u32
+    ensures { λ n. ⌜ n ≡ countedOf c ⌝ }
+{
+    match c {
+        Counted::Count(_) => 0,
+        Counted::Refused(r) => number(r) as u32,
     }
 }

@@ -27,50 +27,23 @@ enum-told c = search needs
 returns : tie.Need-returns
 returns c = search needs
 
-sample-buffer-requires : tie.Need-sample-buffer-requires
-sample-buffer-requires c κs = search needs
-
-plane-buffer-requires : tie.Need-plane-buffer-requires
-plane-buffer-requires c κs = search needs
-
-covering-buffer-requires : tie.Need-covering-buffer-requires
-covering-buffer-requires c κs = search needs
-
-plane-buffer-requires-2 : tie.Need-plane-buffer-requires-2
-plane-buffer-requires-2 c κs = search needs
-
 large-buffer-requires : tie.Need-large-buffer-requires
 large-buffer-requires c κs = search needs
 
 array-share-prefix-text : tie.Need-array-share-prefix-text
-array-share-prefix-text c = let r = c .before .before .before .before .before .before .before .before .before .read-input in subst (λ (o : Input). AtMost (length (r .last .0)) o) (c .before .before .before .before .before .before .n .given .1) (r .ensures)
+array-share-prefix-text c = subst (λ (o : Input). AtMost (length (c .before .before .before .before .before .read-input .last .0)) o) (c .before .before .n .given .1) (c .before .before .before .before .before .read-input .ensures)
 
 slice-aggregate-cut : tie.Need-slice-aggregate-cut
-slice-aggregate-cut c = let r = c .before .before .before .before .before .before .before .before .before .before .read-input in sym (length-take-le _ _ (subst (λ (o : Input). AtMost (length (r .last .0)) o) (c .before .before .before .before .before .before .before .n .given .1) (r .ensures)))
-
-slice-aggregate-cut-2 : tie.Need-slice-aggregate-cut-2
-slice-aggregate-cut-2 c = search needs
-
-slice-aggregate-cut-3 : tie.Need-slice-aggregate-cut-3
-slice-aggregate-cut-3 c = search needs
-
-slice-aggregate-cut-4 : tie.Need-slice-aggregate-cut-4
-slice-aggregate-cut-4 c = search needs
-
-slice-aggregate-cut-5 : tie.Need-slice-aggregate-cut-5
-slice-aggregate-cut-5 c = search needs
-
-slice-aggregate-cut-6 : tie.Need-slice-aggregate-cut-6
-slice-aggregate-cut-6 c = search needs
+slice-aggregate-cut c = sym (length-take-le _ _ (subst (λ (o : Input). AtMost (length (c .before .before .before .before .before .before .read-input .last .0)) o) (c .before .before .before .n .given .1) (c .before .before .before .before .before .before .read-input .ensures)))
 
 cut-requires : tie.Need-cut-requires
 cut-requires c κs = search needs
 
 array-share-prefix-out : tie.Need-array-share-prefix-out
-array-share-prefix-out c = within (c .before .before .before .before .before .cut .ensures)
+array-share-prefix-out c = within (c .cut .ensures)
 
 slice-aggregate-write-all : tie.Need-slice-aggregate-write-all
-slice-aggregate-write-all c = sym (length-take-le _ _ (within (c .before .before .before .before .before .before .cut .ensures)))
+slice-aggregate-write-all c = sym (length-take-le _ _ (within (c .before .cut .ensures)))
 
 write-all-requires : tie.Need-write-all-requires
 write-all-requires c κs = search needs
@@ -88,18 +61,9 @@ main-spec =
     enum-known-n
     enum-told
     returns
-    sample-buffer-requires
-    plane-buffer-requires
-    covering-buffer-requires
-    plane-buffer-requires-2
     large-buffer-requires
     array-share-prefix-text
     slice-aggregate-cut
-    slice-aggregate-cut-2
-    slice-aggregate-cut-3
-    slice-aggregate-cut-4
-    slice-aggregate-cut-5
-    slice-aggregate-cut-6
     cut-requires
     array-share-prefix-out
     slice-aggregate-write-all

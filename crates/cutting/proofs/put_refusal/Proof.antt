@@ -6,7 +6,7 @@ use lib.ListN.{length}
 use Rattle.text.specs.Bytes.{bytes}
 use Rattle.text.specs.Write.{cellText}
 use Rattle.text.proofs.Stamp.{Put, put-more, put-length, cell-length, width-le, stamp-front}
-use Rattle.cutting.specs.Forms.{refusalText}
+use Rattle.cutting.specs.Cutter.{refusalText}
 use borrow.Author.Needs.{needs}
 use Rattle.cutting.proofs.put_refusal.Statement.{statement}
 use Rattle.cutting.proofs.put_refusal.Tie as tie

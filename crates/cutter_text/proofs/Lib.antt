@@ -1,0 +1,4 @@
+pub mod Heads
+pub mod Stores
+pub mod Turned
+pub mod Wholes

@@ -1,0 +1,4 @@
+pub mod Forms
+pub mod Picture
+pub mod Header
+pub mod Rows
