@@ -1,8 +1,11 @@
 /* Shows side by side what a quota leaves of an image: compare LEVELS QUOTA <in.pgm >out.png
 
-   Left the original; in the middle what is left where the coefficients are ranked by |W| alone, as earlier coders shared the quota
-   (made by the plain C of bench/baseline.c); right what the library leaves, ranked by |W| * 2^(R-r). Below each, a part of it four
-   times as large. Decomposing and restoring are the library's in both. The two squared distances are printed on the error output. */
+   Left the original; in the middle what the old coder's way of sharing the quota leaves (share_by_level below); right what the
+   library's keep leaves. Below each, a part of it four times as large. The plane and its coverings come from the library's decompose,
+   and all are restored by the library: the ways differ only in which tetrolet coefficients stay. The low-pass is never cut.
+
+   The error output has the squared distance of each to the original, and the coefficients left by level; and the same for a way that
+   is not shown, ranking by |W| alone (the plain C of bench/baseline.c), which starves the fine levels. */
 #include "baseline.h"
 #include "image.h"
 #include "tetrolet.h"
@@ -10,9 +13,67 @@
 #include <stdlib.h>
 #include <string.h>
 
-static uint16_t image[TETROLET_MAX_AREA], left_raw[TETROLET_MAX_AREA], left_ours[TETROLET_MAX_AREA];
+static uint16_t image[TETROLET_MAX_AREA], left_old[TETROLET_MAX_AREA], left_ours[TETROLET_MAX_AREA], left_raw[TETROLET_MAX_AREA];
 static int64_t plane[TETROLET_MAX_AREA], kept[TETROLET_MAX_AREA], numerators[TETROLET_MAX_AREA], scratch[TETROLET_MAX_AREA];
 static uint8_t coverings[TETROLET_MAX_BLOCKS];
+
+/* ---- The old way of sharing the quota ---- */
+
+/* A tetrolet coefficient of the level at hand: |W|, its number in plane order within the level, and where it is. */
+struct coefficient {
+    uint64_t size;
+    size_t order;
+    int64_t *at;
+};
+
+static struct coefficient list[TETROLET_MAX_AREA];
+
+/* Falling |W|, then plane order. */
+static int by_size(const void *a, const void *b)
+{
+    const struct coefficient *p = a, *q = b;
+    if (p->size != q->size)
+        return p->size > q->size ? -1 : 1;
+    return p->order < q->order ? -1 : p->order > q->order;
+}
+
+/* Keeps the first `share` tetrolet coefficients of level r by falling |W|, then plane order; its others become 0. Gives how many are
+   left that are not zero. */
+static uint64_t keep_level(size_t side, size_t r, int64_t *p, uint64_t share)
+{
+    size_t h = side >> r, n = 0;
+    for (size_t band = 1; band <= 3; band++)
+        for (size_t col = 0; col < h; col++)
+            for (size_t row = 0; row < h; row++) {
+                int64_t *at = p + (col + (band & 1 ? h : 0)) * side + row + (band & 2 ? h : 0);
+                list[n] = (struct coefficient) { (uint64_t)(*at < 0 ? -*at : *at), n, at };
+                n++;
+            }
+    qsort(list, n, sizeof *list, by_size);
+    uint64_t left = 0;
+    for (size_t i = 0; i < n; i++)
+        if (i < share)
+            left += list[i].size != 0;
+        else
+            *list[i].at = 0;
+    return left;
+}
+
+/* The old coder fixed the share of each level before the deeper levels were worked out. Modelled so, from the finest level:
+
+   Level r finds the (side / 2^(r-1))^2 samples that remain, and turns three quarters of them into its tetrolet coefficients. Its
+   share is therefore three quarters of what is left of the quota, rounded down; at the last level, all that is left. It keeps at once
+   its largest |W|, as many as its share (of equals the first in plane order), and drops its others for good. What it kept that is not
+   zero is taken off the quota, and only the rest goes on to the next level. */
+static void share_by_level(size_t side, size_t levels, int64_t *p, uint64_t quota)
+{
+    for (size_t r = 1; r <= levels; r++) {
+        uint64_t share = r < levels ? quota * 3 / 4 : quota;
+        quota -= keep_level(side, r, p, share);
+    }
+}
+
+/* ---- Figures ---- */
 
 static void accepted(const char *what, uint32_t refusal)
 {
@@ -32,10 +93,14 @@ static unsigned long long distance(const uint16_t *a, const uint16_t *b, size_t 
     return sum;
 }
 
-/* How many tetrolet coefficients each level keeps. */
-static void say(const char *what, size_t side, size_t levels, unsigned long long d)
+/* Restores `kept` and prints its squared distance to the original, and how many tetrolet coefficients each level has left. */
+static void restore_and_say(const char *what, size_t side, size_t levels, uint16_t *samples)
 {
-    fprintf(stderr, "%-18s squared distance %12llu, mean %8.1f; coefficients left by level:", what, d, (double)d / (double)(side * side));
+    size_t area = side * side, blocks = tetrolet_blocks(side, levels);
+    accepted("restore", tetrolet_restore(side, levels, kept, area, coverings, blocks, numerators, area, samples, area, scratch, area));
+    unsigned long long d = distance(image, samples, area);
+    fprintf(stderr, "%-13s squared distance %llu, for each sample %.1f; ", what, d, (double)d / (double)area);
+    fprintf(stderr, "coefficients left by level:");
     for (size_t r = 1; r <= levels; r++) {
         size_t h = side >> r, n = 0;
         for (size_t x = 0; x < 2 * h; x++)
@@ -66,27 +131,29 @@ int main(int argc, char **argv)
     size_t side = h.width, area = side * side, blocks = tetrolet_blocks(side, levels > 8 ? 0 : levels);
     accepted("decompose", tetrolet_decompose(side, levels, image, area, plane, area, coverings, blocks, scratch, area));
 
-    memcpy(kept, plane, area * sizeof *plane);
-    accepted("keep", base_keep_raw(side, levels, kept, area, quota, &left));
-    accepted("restore", tetrolet_restore(side, levels, kept, area, coverings, blocks, numerators, area, left_raw, area, scratch, area));
-    unsigned long long raw = distance(image, left_raw, area);
-    say("ranked by |W|:", side, levels, raw);
-
+    /* Ours first: it refuses a quota that is too large. */
     memcpy(kept, plane, area * sizeof *plane);
     accepted("keep", tetrolet_keep(side, levels, kept, area, quota, &left));
-    accepted("restore", tetrolet_restore(side, levels, kept, area, coverings, blocks, numerators, area, left_ours, area, scratch, area));
-    unsigned long long ours = distance(image, left_ours, area);
-    say("ranked as ours is:", side, levels, ours);
+    restore_and_say("ours:", side, levels, left_ours);
 
-    /* Both use the whole range of the original's samples. */
-    const uint16_t *shown[3] = { image, left_raw, left_ours };
+    memcpy(kept, plane, area * sizeof *plane);
+    share_by_level(side, levels, kept, quota);
+    restore_and_say("old sharing:", side, levels, left_old);
+
+    memcpy(kept, plane, area * sizeof *plane);
+    accepted("keep", base_keep_raw(side, levels, kept, area, quota, &left));
+    restore_and_say("by |W| alone:", side, levels, left_raw);
+
+    /* All use the whole range of the original's samples. */
+    const uint16_t *shown[3] = { image, left_old, left_ours };
     unsigned dark = 4095, bright = 0;
     for (size_t i = 0; i < area; i++) {
         dark = image[i] < dark ? image[i] : dark;
         bright = image[i] > bright ? image[i] : bright;
     }
     unsigned span = bright > dark ? bright - dark : 1;
-    size_t gap = 8, width = 3 * side + 2 * gap, height = 2 * side + gap, from = side * 5 / 16;
+    size_t gap = 8, width = 3 * side + 2 * gap, height = 2 * side + gap;
+    size_t part_x = side * 3 / 16, part_y = side / 2; /* the part that is shown large */
     uint8_t *grey = malloc(width * height);
     if (grey == NULL)
         return 2;
@@ -95,7 +162,7 @@ int main(int argc, char **argv)
         for (size_t y = 0; y < side; y++)
             for (size_t x = 0; x < side; x++)
                 for (int big = 0; big < 2; big++) {
-                    size_t sx = big ? from + x / 4 : x, sy = big ? from + y / 4 : y;
+                    size_t sx = big ? part_x + x / 4 : x, sy = big ? part_y + y / 4 : y;
                     unsigned v = shown[k][sx * side + sy];
                     v = v < dark ? dark : v > bright ? bright : v;
                     grey[(y + (big ? side + gap : 0)) * width + (size_t)k * (side + gap) + x] = (uint8_t)((v - dark) * 255 / span);

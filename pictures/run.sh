@@ -1,6 +1,6 @@
 #!/usr/bin/env bash
-# Builds the picture programs; makes the synthetic veneer and the picture that compares two ways of sharing a quota; turns the veneer
-# into a sheet and back. Needs a C compiler. With --built the library is taken as it stands.
+# Builds the picture programs; makes the synthetic veneer and the picture of what a quota leaves of it, and compares both with those
+# kept here; turns the veneer into a sheet and back. Needs a C compiler. With --built the library is taken as it stands.
 set -eu
 cd "$(dirname "$0")/.."
 mkdir -p target/pictures
@@ -9,7 +9,8 @@ if [ "${1:-}" != --built ]; then
 fi
 archive=target/staticlib/libc_api.a
 flags='-O2 -std=c11 -Wall -Wextra -Iinclude -Ibench -Ipictures'
-levels=6 quota=6554
+side=256 levels=7 quota=1966
+whole=$((side * side - side * side / 4 ** levels))
 
 cc $flags pictures/veneer.c pictures/image.c -o target/pictures/veneer
 target/pictures/veneer >target/pictures/veneer.pgm
@@ -23,5 +24,5 @@ cc $flags pictures/pgm.c pictures/image.c "$archive" -o target/pictures/pgm
 target/pictures/pgm to-sheet $levels $quota <pictures/veneer.pgm >target/pictures/veneer.sheet
 target/pictures/pgm to-pgm <target/pictures/veneer.sheet >target/pictures/kept.pgm
 echo "target/pictures/veneer.sheet: $(wc -c <target/pictures/veneer.sheet) bytes; target/pictures/kept.pgm: what a quota of $quota leaves"
-target/pictures/pgm to-sheet $levels 65520 <pictures/veneer.pgm | target/pictures/pgm to-pgm | cmp - pictures/veneer.pgm
-echo "the whole quota gives the picture back"
+target/pictures/pgm to-sheet $levels $whole <pictures/veneer.pgm | target/pictures/pgm to-pgm | cmp - pictures/veneer.pgm
+echo "the whole quota, $whole, gives the picture back"

@@ -1,5 +1,5 @@
 /* Makes the synthetic veneer: fine grain over a broad stain, side 256, 12 bit, as a P5 file. Whole numbers only, so that it is the
-   same everywhere. */
+   same everywhere. No scan of wood is in it. */
 #include "image.h"
 
 enum { SIDE = 256, ONE = 256 };
@@ -15,20 +15,33 @@ static int hash(int x, int row)
     return (int)((h ^ h >> 16) >> 8 & 255);
 }
 
+/* From 0 to ONE as s goes from 0 to ONE, slow at both ends. */
+static int ease(int s)
+{
+    return s * s * (3 * ONE - 2 * s) / (ONE * ONE);
+}
+
 /* Smooth noise of one place, 0 to 255: `x` counts in 1/256 of a step. */
 static int noise(int x, int row)
 {
-    int k = x >> 8, f = x & 255;
-    int s = f * f * (3 * ONE - 2 * f) / (ONE * ONE); /* eases in and out */
+    int k = x >> 8, s = ease(x & 255);
     return (hash(k, row) * (ONE - s) + hash(k + 1, row) * s) / ONE;
 }
 
 /* Smooth noise of two places. */
 static int noise2(int x, int y, int row)
 {
-    int k = y >> 8, f = y & 255;
-    int s = f * f * (3 * ONE - 2 * f) / (ONE * ONE);
+    int k = y >> 8, s = ease(y & 255);
     return (noise(x, row + 64 * k) * (ONE - s) + noise(x, row + 64 * (k + 1)) * s) / ONE;
+}
+
+/* The largest whole number whose square is at most n. */
+static int root(int n)
+{
+    int r = 0;
+    while ((r + 1) * (r + 1) <= n)
+        r++;
+    return r;
 }
 
 /* How far the grain, which runs along the rows, is bent down at a column, in 1/256 of a row. */
@@ -37,30 +50,34 @@ static int bend(int x)
     return noise(x * 3, 1) * 10 + noise(x * 9, 2) * 3;
 }
 
-/* Growth rings: soft bands along the grain. */
-static int rings(int x, int y)
+/* Soft lighter and darker bands along the grain. */
+static int bands(int x, int y)
 {
-    return (noise2((y * ONE + bend(x)) / 4, x * 3, 1000) - 128) * 3 / 4;
+    return (noise2(x, y * 8 + bend(x) / 32, 9000) - 128) * 100 / 128;
 }
 
-/* Fine grain: thin dark strokes of two to four samples. */
-static int stroke(int x, int y)
+/* Whether one of the pores of a row of the grain is at a column: they are two or three samples long. */
+static int is_pore(int x, int row)
 {
-    int row = y + bend(x) / ONE, start = x + hash(row, 7) % 8, k = start / 8, at = start % 8;
-    int h = hash(k + 97 * row, 9);
-    return h < 44 && at < 2 + h % 3 ? 380 + 4 * h : 0;
+    int start = x + hash(row, 7) % 8, h = hash(start / 8 + 97 * row, 9);
+    return h < 18 && start % 8 < 2 + h % 2;
 }
 
-/* The stain: a broad dark patch with a soft, uneven rim. */
+/* Fine grain: dark pores, each with a light edge below it, as a lamp from above shows them. */
+static int grain(int x, int y)
+{
+    int row = y + bend(x) / ONE;
+    return (is_pore(x, row - 1) ? 600 : 0) - (is_pore(x, row) ? 1200 : 0);
+}
+
+/* The stain, as a wet pot leaves it: a broad ring, soft on both sides and not quite round. `off` is the distance from its middle
+   line, in quarters of a sample; at 28 samples from it the stain has faded out. */
 static int stain(int x, int y)
 {
-    int dx = x - 150, dy = (y - 120) * 5 / 4;
-    int d = dx * dx + dy * dy, r = 88 + (noise2(x * 5, y * 5, 5000) - 128) / 4;
-    int inside = r * r - d;
-    if (inside <= 0)
-        return 0;
-    int depth = inside / 7;
-    return depth > 900 ? 900 : depth;
+    int dx = x - 132, dy = y - 112, radius = 88, reach = 28;
+    int off = root(16 * (dx * dx + dy * dy)) - 4 * radius + (noise2(x * 5, y * 5, 5000) - 128) / 5;
+    off = off < 0 ? -off : off;
+    return off < 4 * reach ? 900 * ease(ONE - off * ONE / (4 * reach)) / ONE : 0;
 }
 
 int main(void)
@@ -68,9 +85,7 @@ int main(void)
     static uint16_t samples[SIDE * SIDE];
     for (int x = 0; x < SIDE; x++)
         for (int y = 0; y < SIDE; y++) {
-            int broad = (noise2(x * 4, y * 5, 9000) - 128) * 3;
-            int mottle = (noise2(x * 24, y * 24, 20000) - 128) * 3 / 2;
-            int v = 2700 + broad + mottle + rings(x, y) - stroke(x, y) - stain(x, y);
+            int v = 2700 + bands(x, y) + grain(x, y) - stain(x, y);
             samples[x * SIDE + y] = (uint16_t)(v < 0 ? 0 : v > 4095 ? 4095 : v);
         }
     return !pgm_write(stdout, samples, SIDE, 4095);
