@@ -3,7 +3,7 @@ use Rattle.coverings.specs.Words.{wordOf}
 use Rattle.block.specs.Laws.{BlockLaws}
 use Rattle.block.proofs.Words.{good}
 use Rattle.block.proofs.Blocks.{inverse-forward, inverse-squares, forward-squares, forward-sub, inverse-sub}
-use Rattle.block.proofs.Labels.{fewest, squares}
+use Rattle.block.proofs.Labels.{fewest, smallest, squares}
 use Rattle.block.proofs.Pick.{pick-number, pick-wins, pick-least}
 use Rattle.block.proofs.Named.{pick-named, named-cost}
 
@@ -16,6 +16,7 @@ laws = record {
   inverseAdditive = inverse-sub;
   squares = squares;
   fewest = λ n m. fewest (wordOf n);
+  smallest = λ n m. smallest (wordOf n);
   number = pick-number;
   wins = pick-wins;
   least = pick-least;

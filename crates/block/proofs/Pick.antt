@@ -201,20 +201,21 @@ chosen (suc n) earlier v = go (beats earlier v (suc (suc n)) (pickTo n earlier v
         on k a (yes h) l = c .wins k a (omega arith)
         on k a (no h) l = let q : k ≡ new = omega arith in rw q (record { lowest = not-less never; often = not-more never; first = λ q r. let z = c .number .1 in omega arith })
 
-pub pick-number : (earlier : List ℕ) (v : ℕ → ℤ) → Number (pick earlier v)
+-- of all 117
+whole : (earlier : List ℕ) (v : ℕ → ℤ) → Chosen earlier v 116 (pick earlier v)
 unfolding pick
-pick-number earlier v = chosen 116 earlier v .number
+whole earlier v = chosen 116 earlier v
+
+pub pick-number : (earlier : List ℕ) (v : ℕ → ℤ) → Number (pick earlier v)
+pick-number earlier v = whole earlier v .number
 
 pub pick-lowest : (earlier : List ℕ) (v : ℕ → ℤ) (n : ℕ) → Number n → costOf (shapesOf (wordOf (pick earlier v))) v ≤ costOf (shapesOf (wordOf n)) v
-unfolding pick
-pick-lowest earlier v n m = chosen 116 earlier v .wins n (m .0) (m .1) .lowest
+pick-lowest earlier v n m = whole earlier v .wins n (m .0) (m .1) .lowest
 
 pub pick-wins : (earlier : List ℕ) (v : ℕ → ℤ) (n : ℕ) → Number n → Wins earlier v (pick earlier v) n
-unfolding pick
-pick-wins earlier v n m = chosen 116 earlier v .wins n (m .0) (m .1)
+pick-wins earlier v n m = whole earlier v .wins n (m .0) (m .1)
 
 pub pick-least : (earlier : List ℕ) (v : ℕ → ℤ) (shape : ℕ → ℕ → Bool) → Shapes shape → costOf (shapesOf (wordOf (pick earlier v))) v ≤ costOf shape v
-unfolding pick
 pick-least earlier v shape f =
     let c = covering-cost shape f v in
-    le-trans (chosen 116 earlier v .wins (c .0) (c .1 .0) (c .1 .1) .lowest) (c .2)
+    le-trans (whole earlier v .wins (c .0) (c .1 .0) (c .1 .1) .lowest) (c .2)

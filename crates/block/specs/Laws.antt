@@ -33,6 +33,9 @@ pub record BlockLaws : Type 0 where
   pub squares : (a : ℕ) → a < 16 → squareOf a ≡ cond (ltb (row a) 2) (cond (ltb (col a) 2) 0 2) (cond (ltb (col a) 2) 1 3)
   -- no labelling has fewer differing cells than the labels of a covering
   pub fewest : (n : ℕ) → Number n → (k : ℕ) → k < 24 → differing (wordOf n) (labelsOf (wordOf n)) ≤ differing (wordOf n) (getD labellings k [])
+  -- and they are the smallest list of those with as few: each listed before them has more
+  pub smallest : (n : ℕ) → Number n → (j : ℕ) × (j < 24) × (labelsOf (wordOf n) ≡ getD labellings j [])
+      × ((k : ℕ) → k < j → differing (wordOf n) (labelsOf (wordOf n)) < differing (wordOf n) (getD labellings k []))
   -- the choice is a covering, the right one among the 117, and no cutting costs less
   pub number : (earlier : List ℕ) (v : ℕ → ℤ) → Number (pick earlier v)
   pub wins : (earlier : List ℕ) (v : ℕ → ℤ) (n : ℕ) → Number n → Wins earlier v (pick earlier v) n

@@ -2,22 +2,20 @@
 use mathlib.Core.Path.{_≡_, refl, sym, ap, _∙_}
 use Prim.Native.Nat.{ℕ, zero, suc, pred, _+_, _*_, _-_, _/_, _%_, _^_, _<_, _≤_}
 use native.Mathlib.Omega.{arith}
-use native.Mathlib.Nat.{one-mul, one-le-pow}
-use lib.IntN.{pos, _+ℤ_, _*ℤ_}
+use native.Mathlib.Nat.{one-mul}
 use lib.ListN.{length, getD, length-append}
 use mathlib.Core.List.{List}
 use Rattle.integers.specs.Sum.{sq, total}
 use Rattle.pyramid.specs.Plane.{Fits, numerators, Numbers, allBlocks, halved}
 use Rattle.integers.specs.Lists.{tabulate}
 use Rattle.integers.proofs.Tabulate.{length-tabulate}
-use Rattle.integers.proofs.Div.{shr-low, shr-high}
 use Rattle.pyramid.specs.Places.{Place, planePlaces, tetroletPlaces, blocksFrom, blockAt, at, sumOver}
 use Rattle.pyramid.specs.Laws.{PyramidLaws, Places, PlaceLaws, Laws}
 use Rattle.pyramid.proofs.Pyramid.{numerators-sub, numerators-analyse}
 use Rattle.pyramid.proofs.Energy.{lowTotal, energy}
 use Rattle.pyramid.proofs.Ranges.{in-range}
 use Rattle.pyramid.proofs.Sides.{sized, sized-fits}
-use Rattle.pyramid.proofs.Bounds.{bounds, exactly}
+use Rattle.pyramid.proofs.Bounds.{bounds, rounded, exactly}
 use Rattle.pyramid.proofs.Choose.{covers-length, covers-numbers, covers-least}
 use Rattle.pyramid.proofs.Places.{All, places-inside}
 use Rattle.pyramid.proofs.Order.{numberIn, plane-inside, number-of, plane-count, entry-at}
@@ -70,9 +68,6 @@ placed (suc R) h w f l = record {
   tested = ranged R h w;
 }
 
-even : (R : ℕ) → 0 < 2 * 4 ^ R
-even R = let h = one-le-pow R 4 (omega arith) in omega arith
-
 pub laws : Laws
 laws = record {
   byCoverings = pyramid;
@@ -82,6 +77,6 @@ laws = record {
   numbers = covers-numbers;
   least = covers-least;
   exactly = exactly;
-  rounded = λ R y. let z = pos 2 *ℤ y +ℤ pos (4 ^ R) in (shr-low (2 * 4 ^ R) z (even R), shr-high (2 * 4 ^ R) z (even R));
+  rounded = rounded;
   sides = λ R h w s t d. sized-fits (sized R h w s t d);
 }

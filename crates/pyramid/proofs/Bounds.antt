@@ -1,19 +1,22 @@
--- What Keep leaves of a plane in range is in range, the numerators of a plane in range are bounded, and the plane of a picture gives its samples back. Assumes nothing.
+-- What Keep leaves of a plane in range is in range, the numerators of a plane in range are bounded, samples are rounded to nearest, and the plane of a picture gives its
+-- samples back. Assumes nothing.
 use mathlib.Core.Path.{_≡_, refl, sym, ap, _∙_, subst, subst⁻¹}
 use mathlib.Core.List.{List, [], _∷_, map}
 use mathlib.Core.Bool.{false}
 use Prim.Native.Nat.{ℕ, zero, suc, _+_, _*_, _-_, _/_, _%_, _^_, _≤_, _<_, min}
 use native.Mathlib.Omega.{arith}
 use native.Mathlib.Nat.{pow-succ', one-le-pow, mul-add-div-right, div-eq-of-lt, add-zero, mod-lt, div-lt-iff-lt-mul, div-add-mod', mul-le-mul-left}
-use lib.IntN.{ℤ, pos, natAbs, _*ℤ_}
+use lib.IntN.{ℤ, pos, natAbs, _+ℤ_, _*ℤ_}
+use lib.Signed.{_≤ℤ_, _<ℤ_}
 use lib.ListN.{length, getD, length-map}
 use lib.Seq.{ext-getD}
 use Rattle.integers.proofs.Bound.{abs-mul}
+use Rattle.integers.proofs.Div.{shr-low, shr-high}
 use Rattle.coverings.specs.Block.{nameOf}
 use Rattle.block.specs.Block.{labelsOf, inverse}
 use Rattle.pyramid.specs.Plane.{Image, Fits, blocks, after, wordAt, band, withLow, mergeOf, analyse, numerators, listed, Numbers, allBlocks, halved}
 use Rattle.pyramid.specs.Places.{tetroletPlaces, placesFrom, at}
-use Rattle.pyramid.specs.Slices.{imageOf, pictureOf, coversOf, planeOf, numeratorsOf, sampleOf, samplesOf}
+use Rattle.pyramid.specs.Slices.{imageOf, pictureOf, coversOf, planeOf, numeratorsOf, nearest, sampleOf, samplesOf}
 use Rattle.pyramid.specs.Ranges.{InRange}
 use Rattle.block.proofs.Words.{Good, labelIn}
 use Rattle.pyramid.proofs.Levels.{good-at}
@@ -104,6 +107,14 @@ module _ (R h w : ℕ) (P : Image) (r : InRange R h w P) where
 
 pub bounds : (R h w : ℕ) → Fits R h w → (cs : ℕ → ℕ) → Numbers (allBlocks R h w) cs → (P : Image) → InRange R h w P → (y x : ℕ) → y < h → x < w → 2 * natAbs (numerators R h w cs P y x) ≤ 4095 * 4 ^ R * (2 + 3 * R)
 bounds R h w f cs ns P r = bounded 0 R R h w (4095 * 4 ^ R) (omega arith) f cs ns P (low-size R h w P r) (tetrolet-size R h w P r)
+
+-- rounding to nearest
+pub rounded : (R : ℕ) (y : ℤ) → let m = 2 * 4 ^ R in let n = nearest R y in
+    ((pos m *ℤ n) ≤ℤ (pos 2 *ℤ y +ℤ pos (4 ^ R))) × ((pos 2 *ℤ y +ℤ pos (4 ^ R)) <ℤ (pos m *ℤ n +ℤ pos m))
+rounded R y = let z = pos 2 *ℤ y +ℤ pos (4 ^ R) in (shr-low (2 * 4 ^ R) z even, shr-high (2 * 4 ^ R) z even)
+  where
+    even : 0 < 2 * 4 ^ R
+    even = let h = one-le-pow R 4 (omega arith) in omega arith
 
 -- exact restoring, of samples
 getD-map : {A B : Type 0} (f : A → B) (l : List A) (a : A) (b : B) (n : ℕ) → n < length l → getD (map f l) n b ≡ f (getD l n a)

@@ -126,14 +126,6 @@ module _ (q : List ℕ) where
       (λ k l. one-if (before q k m) (before q k n) (λ t. to-before k n (before-trans k m n (of-before k m t) b)))
 
   module _ (K : ℕ) where
-    pub stay-rank : (n : ℕ) → T (stays K q n) → 0 < getD q n 0
-    unfolding stays ahead
-    stay-rank n t = ltb→lt 0 (getD q n 0) (both-left (ltb 0 (getD q n 0)) (ltb (ahead n) K) t)
-
-    stay-ahead : (n : ℕ) → T (stays K q n) → ahead n < K
-    unfolding stays ahead
-    stay-ahead n t = ltb→lt (ahead n) K (both-right (ltb 0 (getD q n 0)) (ltb (ahead n) K) t)
-
     drop-ahead : (n : ℕ) → 0 < getD q n 0 → T (not (stays K q n)) → K ≤ ahead n
     unfolding stays ahead
     drop-ahead n h t = go (decided (ltb (ahead n) K))
@@ -141,6 +133,14 @@ module _ (q : List ℕ) where
         go : T (ltb (ahead n) K) ⊎ T (not (ltb (ahead n) K)) → K ≤ ahead n
         go (inl l) = absurd (T-not (stays K q n) t (both (ltb 0 (getD q n 0)) (ltb (ahead n) K) (lt→ltb 0 (getD q n 0) h) l))
         go (inr l) = nltb→le (ahead n) K l
+
+    stay-ahead : (n : ℕ) → T (stays K q n) → ahead n < K
+    unfolding stays ahead
+    stay-ahead n t = ltb→lt (ahead n) K (both-right (ltb 0 (getD q n 0)) (ltb (ahead n) K) t)
+
+    pub stay-rank : (n : ℕ) → T (stays K q n) → 0 < getD q n 0
+    unfolding stays ahead
+    stay-rank n t = ltb→lt 0 (getD q n 0) (both-left (ltb 0 (getD q n 0)) (ltb (ahead n) K) t)
 
     staying : ℕ
     staying = Σℕ (length q) (λ n. cond (stays K q n) 1 0)

@@ -1,16 +1,15 @@
 -- The starred examples of document 01, "Reckoned by hand", as one table: what the definitions give, and what was reckoned. Assumes nothing.
 use mathlib.Core.Path.{_≡_}
-use mathlib.Core.Bool.{Bool, cond}
 use mathlib.Core.List.{List, [], _∷_, _++_, map}
-use Prim.Native.Nat.{ℕ, _+_, _*_}
+use Prim.Native.Nat.{ℕ, _+_, _*_, _-_}
 use lib.ListN.{getD, take, replicate}
 use lib.IntN.{ℤ, pos, negℤ}
 use Rattle.coverings.specs.Words.{words, wordOf}
 use Rattle.block.specs.Block.{costOf, shapesOf, labelsOf, pick}
 use Rattle.pyramid.specs.Plane.{blockOf}
 use Rattle.pyramid.specs.Places.{placeAt}
-use Rattle.quota.specs.Quota.{rankOf, before, keptOf, cutOf}
-use Rattle.pyramid.specs.Slices.{pictureOf, coversOf, planeOf, numeratorsOf, samplesOf}
+use Rattle.quota.specs.Quota.{rankOf, keptOf, cutOf}
+use Rattle.pyramid.specs.Slices.{imageOf, pictureOf, coversOf, planeOf, numeratorsOf, samplesOf}
 use Rattle.quota.specs.Claims.{distanceOf}
 
 -- A row: the definitions' numbers, and those reckoned.
@@ -24,9 +23,6 @@ row g r = record { given = g; reckoned = r }
 abbrev pub numbers : List ℕ → List ℤ
 numbers l = map pos l
 
-abbrev pub flag : Bool → ℤ
-flag b = cond b (pos 1) (pos 0)
-
 -- Pictures of 4 by 4 samples, down columns.
 abbrev pub flatPicture : List ℕ
 flatPicture = replicate 16 7
@@ -35,7 +31,7 @@ abbrev pub rowsPicture : List ℕ
 rowsPicture = 0 ∷ 10 ∷ 20 ∷ 30 ∷ 0 ∷ 10 ∷ 20 ∷ 30 ∷ 0 ∷ 10 ∷ 20 ∷ 30 ∷ 0 ∷ 10 ∷ 20 ∷ 30 ∷ []
 
 abbrev pub dot : ℕ → List ℕ
-dot n = replicate n 0 ++ (1 ∷ replicate 15 0)
+dot n = replicate n 0 ++ (1 ∷ replicate (15 - n) 0)
 
 -- A block's values and its covering.
 abbrev pub values : List ℕ → ℕ → ℤ
@@ -51,6 +47,10 @@ wavelets s = let p = planeOf 1 4 4 s in getD p (2 * 4 + 0) (pos 0) ∷ getD p (0
 -- Restoring what Keep 1 leaves of the dot.
 abbrev pub dotKept : List ℤ
 dotKept = keptOf 1 4 4 1 (planeOf 1 4 4 (dot 0))
+
+-- A plane of side 8 and two levels, all 0 but a W1 of level 2, which is 5, in column 2, row 0, and a W1 of level 1, which is 3, in column 4, row 0.
+abbrev pub twoLevels : List ℤ
+twoLevels = numbers (replicate 16 0 ++ (5 ∷ replicate 15 0) ++ (3 ∷ replicate 31 0))
 
 unfoldable pub table : List Row
 table =
@@ -70,9 +70,9 @@ table =
     row (let cs = coversOf 1 4 4 (dot 0) in let q = dotKept in take 4 (numeratorsOf 1 4 4 cs q)) (numbers (2 ∷ 2 ∷ 0 ∷ 0 ∷ [])) ∷
     row (let cs = coversOf 1 4 4 (dot 0) in let q = dotKept in numbers (take 4 (samplesOf 1 4 4 cs q))) (numbers (1 ∷ 1 ∷ 0 ∷ 0 ∷ [])) ∷
     row (let cs = coversOf 1 4 4 (dot 0) in let q = dotKept in pos (distanceOf 1 4 4 cs (dot 0) q) ∷ []) (pos 8 ∷ []) ∷
-    -- R = 2: level-1 W 3 ranks 6, before level-2 W 5
-    row (numbers (rankOf 2 (λ y x. pos 3) (placeAt 8 8 1 1 0 0) ∷ rankOf 2 (λ y x. pos 5) (placeAt 4 4 2 1 0 0) ∷ [])) (numbers (6 ∷ 5 ∷ [])) ∷
-    row (flag (before (6 ∷ 5 ∷ []) 0 1) ∷ flag (before (6 ∷ 5 ∷ []) 1 0) ∷ []) (pos 1 ∷ pos 0 ∷ []) ∷
+    -- R = 2: level-1 W 3 ranks 6, before level-2 W 5: Keep 1 leaves the 3 and drops the 5
+    row (let P = imageOf 8 twoLevels in numbers (rankOf 2 P (placeAt 8 8 1 1 0 0) ∷ rankOf 2 P (placeAt 4 4 2 1 0 0) ∷ [])) (numbers (6 ∷ 5 ∷ [])) ∷
+    row (keptOf 2 8 8 1 twoLevels) (numbers (replicate 32 0 ++ 3 ∷ replicate 31 0)) ∷
     -- level 1, T = 1: W 2 stays, 1 goes
     row (take 4 (cutOf 1 4 4 1 (numbers (9 ∷ 9 ∷ 2 ∷ 1 ∷ replicate 12 0)))) (numbers (9 ∷ 9 ∷ 2 ∷ 0 ∷ [])) ∷
     []

@@ -4,6 +4,7 @@ ghost use Prim.Native.Nat.{ℕ, _+_, _≤_};
 ghost use lib.ListN.{length};
 ghost use mathlib.Core.List.{List, [], _∷_, _++_};
 ghost use Rattle.text.specs.Text.{digits, limit, valueText};
+ghost use Rattle.text.specs.Claims.{TextLaws};
 ghost use lib.IntN.{natAbs};
 ghost use Rattle.text.specs.Write.{stamp, stamped, cellText, fourText, fiveText};
 
@@ -103,10 +104,10 @@ pub fn put_four(out: &mut [u8], at: usize, a: u32, b: u32, c: u32, d: u32, end: 
     put_cell(out, r, d, end)
 }
 
-// How long a signed value is.
+// How long a signed value is. Its contract has the law of texts besides, which is so a part of what the check proves.
 pub fn value_width(v: i64) -> usize
     requires { ⌜ natAbs v ≤ limit ⌝ }
-    ensures { λ r. ⌜ r ≡ length (valueText v) ⌝ }
+    ensures { λ r. ⌜ (r ≡ length (valueText v)) × TextLaws ⌝ }
 {
     let m = integers::magnitude(v) as u32;
     let w = width(m);

@@ -16,7 +16,7 @@ value-width-requires : tie.Need-value-width-requires
 value-width-requires c κs = search needs
 
 value-is : (c : tie.After-value-width) → c .value-width .result ≡ length (valueText (c .before .before .args .v))
-value-is c = c .value-width .ensures ∙ ap (λ v. length (valueText v)) (toZ-ofZ (c .before .before .fits .v))
+value-is c = c .value-width .ensures .0 ∙ ap (λ v. length (valueText v)) (toZ-ofZ (c .before .before .fits .v))
 
 add-result : tie.Need-add-result
 add-result c = let a = c .before .before .args in omega (arith, four-bound (a .a) (a .b) (a .c) (a .d) 32, value-is c, value-length (a .v))

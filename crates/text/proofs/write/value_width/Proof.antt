@@ -11,6 +11,7 @@ use lib.ListN.{length, set, length-set}
 use mir.Facts.{toZ-ofZ}
 use Rattle.text.specs.Text.{digits, valueText, limit}
 use Rattle.text.proofs.Stamp.{width-le, text-negative, text-positive}
+use Rattle.text.proofs.Exact.{laws}
 use Rattle.text.proofs.write.value_width.Statement.{statement}
 use Rattle.text.proofs.write.value_width.Tie as tie
 
@@ -33,13 +34,13 @@ returns : tie.Need-returns
 returns c =
     let v = c .before .before .before .args .v in
     let e : ltZ v (pos 0) ≡ true = rw (toZ-ofZ (c .before .before .before .fits .v)) at (c .if1 .taken) in
-    omega (arith, c .before .width .ensures, ap (λ x. length (digits x)) (m-is (c .before .before)), ap length (text-negative v e))
+    (omega (arith, c .before .width .ensures, ap (λ x. length (digits x)) (m-is (c .before .before)), ap length (text-negative v e)), laws)
 
 returns-2 : tie.Need-returns-2
 returns-2 c =
     let v = c .before .before .before .args .v in
     let e : ltZ v (pos 0) ≡ false = rw (toZ-ofZ (c .before .before .before .fits .v)) at (c .if1 .left) in
-    omega (arith, c .before .width .ensures, ap (λ x. length (digits x)) (m-is (c .before .before)), ap length (text-positive v e))
+    (omega (arith, c .before .width .ensures, ap (λ x. length (digits x)) (m-is (c .before .before)), ap length (text-positive v e)), laws)
 
 pub value-width-spec : {M : Type 1} → statement M
 value-width-spec =
