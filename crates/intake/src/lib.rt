@@ -1,8 +1,6 @@
-// The cutter from standard input to standard output: the input is read into a buffer, cut by `cutting::cut`, and what that prints is written. This crate
-// owns the two buffers, the reading and the program's body; the programs over it are one call.
-//
-// What no contract here can say is which bytes a read of the system puts into the buffer, and which a write takes out of it: those calls are C's, and
-// their contracts speak of counts alone. The stored runs of the programs show both.
+// The cutter from standard input to standard output. This crate owns the buffers, the reading and the body of the program; the programs over it are one
+// call of `run`. The contracts say how much of the input is looked at and what is printed for it. Which bytes a read of the system puts into the buffer, and
+// which a write takes out, no contract can say: those calls are C's, and their contracts speak of counts alone. The stored runs of the programs show it.
 ghost use mathlib.Core.Path.{_≡_};
 ghost use Prim.Native.Nat.{suc, _≤_};
 ghost use lib.ListN.{length, take};
@@ -12,7 +10,7 @@ ghost use Rattle.intake.specs.Cuts.{CutInput};
 use reading::Input;
 
 pub mod reading;
-mod standin;
+pub mod standin;
 
 // What became of the input: how it was read, and the length of what is to be printed.
 pub struct Cut {
@@ -35,8 +33,9 @@ fn cut_first(text: &[u8], n: usize, out: &mut [u8; 65536]) -> usize
     standin::cut_text(&text[..n], out)
 }
 
-// Reads the input into `text`, and puts what the cutter prints at the front of `out`. Two wrong answers that the contract rules out: what is right for the
-// first 65,536 bytes of an input that has more; and a sheet of the part that had come when a read failed.
+// Reads the input into `text`, and puts what the cutter prints at the front of `out`. Where the buffer is full that holds whatever follows in the input, which
+// needs a byte more than an input may have. Two wrong answers that the contract rules out: what is right for the first 65,536 bytes of an input that has
+// more; and a sheet of the part that had come when a read failed.
 pub fn cut_input(text: &mut [u8; 65537], out: &mut [u8; 65536]) -> Cut
     ensures { λ r. ⌜ CutInput (now (text .exit)) (now (out .entry)) (now (out .exit)) r ⌝ }
 {
@@ -54,7 +53,7 @@ pub fn cut_input(text: &mut [u8; 65537], out: &mut [u8; 65536]) -> Cut
     }
 }
 
-// The cutter on standard input. Where a read fails nothing is written.
+// The program: cuts standard input and writes what is printed. Where a read fails nothing is written.
 pub fn run() {
     let mut text = input_buffer();
     let mut out = io::large_buffer();

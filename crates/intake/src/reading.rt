@@ -1,4 +1,5 @@
-// Reading standard input to its end, part by part, each behind the bytes that are there.
+// Reading standard input to its end, part by part, each behind the bytes that are there. That a read was made, and which bytes it put there, no contract
+// can say.
 ghost use Prim.Native.Nat.{_<_, _≤_};
 ghost use lib.ListN.{length};
 ghost use Rattle.intake.specs.Reading.{PartRead, InputRead};
@@ -36,8 +37,8 @@ fn part_end(text: &[u8], done: usize) -> usize
     done + 4096
 }
 
-// One read behind the first `done` bytes of `text`, which stay as they are. Two wrong answers that the contract rules out: bytes put over those that are
-// there; and a place past the end of the buffer.
+// One read behind the first `done` bytes of `text`, which stay as they are. It tells the place past what came, so that whoever reads on reads from there.
+// Two wrong answers that the contract rules out: bytes put over those that are there; and a place past the end of the buffer.
 pub fn read_part(text: &mut [u8], done: usize) -> Part
     ensures { λ r. ⌜ PartRead done (now (text .entry)) (now (text .exit)) r ⌝ }
 {
@@ -56,8 +57,9 @@ pub fn read_part(text: &mut [u8], done: usize) -> Part
     Part::To(done + more)
 }
 
-// Reads behind the first `start` bytes of `text` until the input ends or the buffer is full. Two wrong answers that the contract rules out: a further part
-// put over an earlier one; and an answer that the buffer is full while it has room.
+// Reads behind the first `start` bytes of `text` until the input ends or the buffer is full. Each part goes behind the one before it: only then is the place
+// that `read_part` tells further on, and the loop shown to end. Two wrong answers that the contract rules out: a part put over the bytes that were there
+// before the call; and `Full` with fewer bytes than the buffer has. No contract can say that `Ended` comes of a read that found the end.
 pub fn read_input(text: &mut [u8], start: usize) -> Input
     ensures { λ r. ⌜ InputRead start (now (text .entry)) (now (text .exit)) r ⌝ }
 {
