@@ -42,6 +42,10 @@ fn tell_header() {
         b"9 before 2: a quota too large for a text",
         b"side levels quota\n4 2 2147483648\n",
     );
+}
+
+// What a number of the header may be.
+fn tell_numbers() {
     show(
         b"1, the largest quota",
         b"side levels quota\n6 1 2147483647\n",
@@ -50,12 +54,16 @@ fn tell_header() {
     show(b"9, a minus", b"side levels quota\n6 1 -1\n");
 }
 
-// 1, 12 and 2, before all that follows.
+// 1, then 12, then 2.
 fn tell_sizes() {
     show(b"1 before 12: side 48", b"side levels quota\n48 1 0\n");
     show(b"1 before 12: side 1024", b"side levels quota\n1024 1 0\n");
     show(b"1 before 2: no levels", b"side levels quota\n6 0 0\n");
     show(b"12 before 2: no levels", b"side levels quota\n64 0 0\n");
+}
+
+// All three before what follows.
+fn tell_rubbish() {
     show(
         b"1 before 9: rubbish follows",
         b"side levels quota\n6 1 0\nrubbish",
@@ -85,6 +93,9 @@ fn tell_rows() {
         b"4 before 7: a sample of 4096, quota 13 of 12",
         b"side levels quota\n4 1 13\nsamples\n7 7 7 7\n7 4096 7 7\n7 7 7 7\n7 7 7 7\n",
     );
+}
+
+fn tell_samples() {
     show(
         b"7, quota 13 of 12",
         b"side levels quota\n4 1 13\nsamples\n7 7 7 7\n7 7 7 7\n7 7 7 7\n7 7 7 7\n",
@@ -130,6 +141,9 @@ pub fn tell_all() {
     tell_good();
     tell_long();
     tell_header();
+    tell_numbers();
     tell_sizes();
+    tell_rubbish();
     tell_rows();
+    tell_samples();
 }
