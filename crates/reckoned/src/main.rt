@@ -56,17 +56,15 @@ fn contents(words: &[u8]) {
     heading(b"5 tile");
     values::coverings(words);
     lists::coverings(words);
-    texts::coverings();
     heading(b"6 coefficient");
-    values::coefficients(words);
-    texts::values();
+    values::shallow(words);
+    values::deep(words);
     large::ranges();
 }
 
 fn numbers() {
     heading(b"7 quota");
     values::quotas();
-    large::quotas();
     heading(b"8 threshold");
     values::limits();
 }

@@ -68,13 +68,6 @@ pub fn depths() {
     head(b"512 9");
 }
 
-pub fn coverings() {
-    block(b"1 0 0 0");
-    block(b"1 0 0 117");
-    block(b"1 0 0 118");
-    block(b"1 0 0 257");
-}
-
 // The block lines are the blocks: here one, of level 1, row 0 and column 0.
 pub fn blocks() {
     block(b"");
@@ -83,17 +76,6 @@ pub fn blocks() {
     block(b"1 1 0 1");
     block(b"1 0 1 1");
     block(b"1 0 0 1\n1 1 0 1");
-}
-
-// Values in the first place of bands 0 and 1 of level 1, the deepest level here.
-pub fn values() {
-    entry(b"1 0 0 0 -1");
-    entry(b"1 0 0 0 16380");
-    entry(b"1 0 0 0 16381");
-    entry(b"1 1 0 0 8190");
-    entry(b"1 1 0 0 8191");
-    entry(b"1 1 0 0 -8190");
-    entry(b"1 1 0 0 -8191");
 }
 
 // The largest number of a text and one more, in each kind of line.
@@ -110,6 +92,7 @@ pub fn sizes() {
 
 // The same for values; numbers that would be small if they wrapped; a zero in front; a minus.
 pub fn signs() {
+    block(b"1 0 0 257");
     entry(b"1 1 0 0 2147483647");
     entry(b"1 1 0 0 2147483648");
     entry(b"1 1 0 0 -2147483647");

@@ -5,6 +5,7 @@ use crate::answers::tell_one;
 use crate::frames::tell_sheet;
 use crate::frames::zeros;
 use crate::planes;
+use crate::planes::Plane;
 use plain_frame::safe::add;
 
 fn covering(words: &[u8], covering: u8) {
@@ -22,33 +23,41 @@ pub fn coverings(words: &[u8]) {
     covering(words, 255);
 }
 
-// A plane of side 8 and 2 levels that holds the value at this place.
-fn coefficient(words: &[u8], band: &[u8], at: usize, value: i64) {
+// A plane that holds the value at this place, among zeros.
+fn coefficient(words: &[u8], band: &[u8], frame: Plane, at: usize, value: i64) {
     put_signed(band, value);
-    let mut k = zeros(8, 2, 64, 5);
+    let mut k = frame;
     k.at = at;
     k.value = value;
     tell_sheet(words, k);
 }
 
 // The ends of a range, and one past each.
-fn range(words: &[u8], band: &[u8], at: usize, least: i64, most: i64) {
-    coefficient(words, band, at, add(least, -1));
-    coefficient(words, band, at, least);
-    coefficient(words, band, at, most);
-    coefficient(words, band, at, add(most, 1));
+fn range(words: &[u8], band: &[u8], frame: Plane, at: usize, least: i64, most: i64) {
+    coefficient(words, band, frame, at, add(least, -1));
+    coefficient(words, band, frame, at, least);
+    coefficient(words, band, frame, at, most);
+    coefficient(words, band, frame, at, add(most, 1));
 }
 
-// Low-pass 0 to 4,095 times 16; W of level 2 within 8 times 4,095, of level 1 within 2 times 4,095. Planes are stored down columns, so the first entry
-// of a band with row y and column x in the plane stands at 8 times x plus y.
-pub fn coefficients(words: &[u8]) {
-    range(words, b"low-pass value ", 0, 0, 65520);
-    range(words, b"level 2 band 1 value ", 16, -32760, 32760);
-    range(words, b"level 2 band 2 value ", 2, -32760, 32760);
-    range(words, b"level 2 band 3 value ", 18, -32760, 32760);
-    range(words, b"level 1 band 1 value ", 32, -8190, 8190);
-    range(words, b"level 1 band 2 value ", 4, -8190, 8190);
-    range(words, b"level 1 band 3 value ", 36, -8190, 8190);
+// Side 4 and 1 level: low-pass 0 to 4,095 times 4, W within 2 times 4,095. Planes are stored down columns, so the first entry of a band with row y and
+// column x in the plane stands at side times x plus y.
+pub fn shallow(words: &[u8]) {
+    let k = zeros(4, 1, 16, 1);
+    range(words, b"levels 1 low-pass ", k, 0, 0, 16380);
+    range(words, b"levels 1 band 1 ", k, 8, -8190, 8190);
+}
+
+// Side 8 and 2 levels: low-pass 0 to 4,095 times 16, W of level 2 within 8 times 4,095, of level 1 within 2 times 4,095.
+pub fn deep(words: &[u8]) {
+    let k = zeros(8, 2, 64, 5);
+    range(words, b"levels 2 low-pass ", k, 0, 0, 65520);
+    range(words, b"level 2 band 1 ", k, 16, -32760, 32760);
+    range(words, b"level 2 band 2 ", k, 2, -32760, 32760);
+    range(words, b"level 2 band 3 ", k, 18, -32760, 32760);
+    range(words, b"level 1 band 1 ", k, 32, -8190, 8190);
+    range(words, b"level 1 band 2 ", k, 4, -8190, 8190);
+    range(words, b"level 1 band 3 ", k, 36, -8190, 8190);
 }
 
 pub fn quota(side: usize, levels: usize, plane: usize, quota: u64) {
