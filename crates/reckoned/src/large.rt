@@ -1,4 +1,5 @@
-// The largest picture: side 512 with 8 levels, which has 21,845 blocks. Its sheet is written; the second implementation is too slow to decompose it.
+// The largest picture: side 512 with 8 levels, which has 21,845 blocks. Its sheet is written; to decompose it the second implementation, which counts
+// the earlier choices anew for each covering of each block, would take thousands of millions of steps.
 use crate::answers::Pair;
 use crate::answers::put;
 use crate::answers::put_signed;

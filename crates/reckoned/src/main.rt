@@ -80,6 +80,7 @@ fn sheets() {
     texts::blocks();
     texts::places();
     texts::order();
+    texts::deep();
 }
 
 fn main() {

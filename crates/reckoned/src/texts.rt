@@ -1,4 +1,5 @@
 // The limits of texts that are read, each with what lies past it.
+use crate::answers::Pair;
 use crate::answers::tell_one;
 use crate::front;
 use crate::planes::read_text;
@@ -29,14 +30,19 @@ fn show_line(line: &[u8]) {
     io::write_all(1, b"] ");
 }
 
-// Both read the sheet with these lines, into slices for side 4 and 1 level.
-fn sheet(head: &[u8], block: &[u8], entry: &[u8]) {
+// Both read the sheet with these lines, into slices of these lengths.
+fn read_sheet(head: &[u8], block: &[u8], entry: &[u8], n: usize, b: usize) -> Pair {
     let mut text = [0u8; 256];
-    let n = put_sheet(&mut text, head, block, entry);
+    let end = put_sheet(&mut text, head, block, entry);
+    read_text(front::bytes(&text, end), n, b)
+}
+
+// The sheet with these lines, in slices for side 4 and 1 level.
+fn sheet(head: &[u8], block: &[u8], entry: &[u8]) {
     show_line(head);
     show_line(block);
     show_line(entry);
-    tell_one(b"read", read_text(front::bytes(&text, n), 16, 1));
+    tell_one(b"read", read_sheet(head, block, entry, 16, 1));
 }
 
 fn head(line: &[u8]) {
@@ -123,4 +129,27 @@ pub fn order() {
     entry(b"1 1 1 0 1\n1 1 0 0 1");
     entry(b"1 1 1 0 1\n1 1 0 1 1");
     entry(b"1 1 0 1 1\n1 1 1 0 1");
+}
+
+// The sheet of side 8 and 2 levels with its five blocks and these lines of entries.
+fn deep_entry(lines: &[u8]) {
+    show_line(b"8 2");
+    show_line(lines);
+    let p = read_sheet(
+        b"8 2",
+        b"1 0 0 1\n1 1 0 1\n1 0 1 1\n1 1 1 1\n2 0 0 1",
+        lines,
+        64,
+        5,
+    );
+    tell_one(b"read", p);
+}
+
+// Band 0 at level 2 only, no level 3, and level 1 before level 2.
+pub fn deep() {
+    deep_entry(b"1 0 0 0 1");
+    deep_entry(b"2 0 0 0 1");
+    deep_entry(b"3 1 0 0 1");
+    deep_entry(b"1 3 3 3 1\n2 0 0 0 1");
+    deep_entry(b"2 0 0 0 1\n1 3 3 3 1");
 }

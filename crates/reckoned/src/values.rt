@@ -44,20 +44,20 @@ fn range(words: &[u8], band: &[u8], frame: Plane, at: usize, least: i64, most: i
 // column x in the plane stands at side times x plus y.
 pub fn shallow(words: &[u8]) {
     let k = zeros(4, 1, 16, 1);
-    range(words, b"levels 1 low-pass ", k, 0, 0, 16380);
-    range(words, b"levels 1 band 1 ", k, 8, -8190, 8190);
+    range(words, b"side 4 low-pass ", k, 0, 0, 16380);
+    range(words, b"side 4 level 1 band 1 ", k, 8, -8190, 8190);
 }
 
 // Side 8 and 2 levels: low-pass 0 to 4,095 times 16, W of level 2 within 8 times 4,095, of level 1 within 2 times 4,095.
 pub fn deep(words: &[u8]) {
     let k = zeros(8, 2, 64, 5);
-    range(words, b"levels 2 low-pass ", k, 0, 0, 65520);
-    range(words, b"level 2 band 1 ", k, 16, -32760, 32760);
-    range(words, b"level 2 band 2 ", k, 2, -32760, 32760);
-    range(words, b"level 2 band 3 ", k, 18, -32760, 32760);
-    range(words, b"level 1 band 1 ", k, 32, -8190, 8190);
-    range(words, b"level 1 band 2 ", k, 4, -8190, 8190);
-    range(words, b"level 1 band 3 ", k, 36, -8190, 8190);
+    range(words, b"side 8 low-pass ", k, 0, 0, 65520);
+    range(words, b"side 8 level 2 band 1 ", k, 16, -32760, 32760);
+    range(words, b"side 8 level 2 band 2 ", k, 2, -32760, 32760);
+    range(words, b"side 8 level 2 band 3 ", k, 18, -32760, 32760);
+    range(words, b"side 8 level 1 band 1 ", k, 32, -8190, 8190);
+    range(words, b"side 8 level 1 band 2 ", k, 4, -8190, 8190);
+    range(words, b"side 8 level 1 band 3 ", k, 36, -8190, 8190);
 }
 
 pub fn quota(side: usize, levels: usize, plane: usize, quota: u64) {
