@@ -9,10 +9,10 @@ use cases::answers::outcome;
 use cases::safe::put_value;
 use cases::tally::same_bytes;
 
-// Both write the sheet.
+// Both write the sheet, which has 220,711 bytes and the line of the value.
 fn both_write(plane: &[i64], coverings: &[u8]) -> Pair {
-    let mut buffer = [b'?'; 300000];
-    let mut buffer2 = [b'?'; 300000];
+    let mut buffer = [b'?'; 220800];
+    let mut buffer2 = buffer;
     let x = outcome(sheet::write(512, 8, plane, coverings, &mut buffer));
     let y = plain_text::writing::write(512, 8, plane, coverings, &mut buffer2);
     Pair {
