@@ -1,68 +1,95 @@
-// Runs the lines of "Reckoned by hand" in document 01 that are not in the proved table: how many blocks a side and its levels have, and the numbers that
-// the entries answer with, 0 where a call is accepted.
-use refusals::Counted;
+// Runs the entries beside the plain second implementation, which shares nothing with them: first the examples of document 01's "Reckoned by hand" that
+// are not in the proved table, then both sides of every limit of its table of refusals, by number. A line has what was asked, for each entry its name,
+// the number of its answer and that of the second implementation, 0 where the call is accepted, and whether the two agree in all that they answer and
+// leave in the slices. What is proved says that code and definition have the same limits; the stored output of this program says which.
+mod answers;
+mod frames;
+mod front;
+mod large;
+mod left;
+mod lists;
+mod pictures;
+mod planes;
+mod texts;
+mod values;
 
-fn show(name: &[u8], n: u64) {
+fn heading(name: &[u8]) {
     io::write_all(1, name);
-    io::print_decimal(1, n);
     io::write_all(1, b"\n");
 }
 
-fn show_blocks() {
-    show(
-        b"blocks, side 4, 1 level: ",
-        places::checks::count_blocks(1, 4) as u64,
-    );
-    show(
-        b"blocks, side 8, 2 levels: ",
-        places::checks::count_blocks(2, 8) as u64,
-    );
-    show(
-        b"blocks, side 512, 8 levels: ",
-        places::checks::count_blocks(8, 512) as u64,
-    );
+// The blocks of a picture are told by the number of coverings that its plane takes.
+fn examples(words: &[u8]) {
+    heading(b"examples");
+    frames::blocks(words);
+    large::blocks();
+    frames::frame(words, 6, 1, 36, 1);
+    frames::frame(words, 1024, 1, 16, 1);
+    frames::frame(words, 4, 2, 16, 1);
+    pictures::flat(words, 16, 16, 1, 16, 4096);
+    lists::word(words, 118, 16);
+    values::quota(4, 1, 16, 12);
+    values::quota(4, 1, 16, 13);
 }
 
-// The answer of decompose with slices for side 4 and 1 level.
-fn decompose(side: usize, levels: usize, sample: u16) -> u64 {
-    let samples = [sample; 16];
-    let mut plane = [0i64; 16];
-    let mut coverings = [0u8; 1];
-    let mut scratch = [0i64; 16];
-    let a = coder::decompose(
-        side,
-        levels,
-        &samples,
-        &mut plane,
-        &mut coverings,
-        &mut scratch,
-    );
-    refusals::code(a) as u64
+fn frame(words: &[u8]) {
+    heading(b"1 side");
+    frames::sides(words);
+    texts::sides();
+    heading(b"2 depth");
+    frames::depths(words);
+    texts::depths();
 }
 
-fn word(covering: u8) -> u64 {
-    let mut w = [0u8; 16];
-    refusals::code(coverings::word_of(covering, &mut w)) as u64
+fn lengths(words: &[u8]) {
+    heading(b"3 frame");
+    pictures::frames(words);
+    frames::planes(words);
+    frames::restored(words);
+    lists::places(words);
+    lists::usage_lengths();
 }
 
-// The answer of keep for a plane of side 4 and 1 level.
-fn keep(quota: u64) -> u64 {
-    let mut plane = [0i64; 16];
-    let Counted::Refused(r) = keeping::keep(4, 1, &mut plane, quota) else {
-        return 0;
-    };
-    refusals::number(r) as u64
+fn contents(words: &[u8]) {
+    heading(b"4 sample");
+    pictures::samples(words);
+    heading(b"5 tile");
+    values::coverings(words);
+    lists::coverings(words);
+    heading(b"6 coefficient");
+    values::shallow(words);
+    values::deep(words);
+    large::ranges();
+}
+
+fn numbers() {
+    heading(b"7 quota");
+    values::quotas();
+    heading(b"8 threshold");
+    values::limits();
+}
+
+fn sheets() {
+    heading(b"9 text");
+    texts::sizes();
+    texts::signs();
+    heading(b"10 tray");
+    values::rooms();
+    lists::usage_rooms();
+    heading(b"11 sequence");
+    texts::blocks();
+    texts::places();
+    texts::order();
+    texts::deep();
 }
 
 fn main() {
-    show_blocks();
-    show(b"side 6: ", decompose(6, 1, 0));
-    show(b"side 1024: ", decompose(1024, 1, 0));
-    show(b"side 4, 2 levels: ", decompose(4, 2, 0));
-    show(b"sample 4095: ", decompose(4, 1, 4095));
-    show(b"sample 4096: ", decompose(4, 1, 4096));
-    show(b"covering 117: ", word(117));
-    show(b"covering 118: ", word(118));
-    show(b"side 4, quota 12: ", keep(12));
-    show(b"side 4, quota 13: ", keep(13));
+    let mut words = [0u8; 1872];
+    plain::tiles::list_words(&mut words);
+    examples(&words);
+    frame(&words);
+    lengths(&words);
+    contents(&words);
+    numbers();
+    sheets();
 }

@@ -1,0 +1,142 @@
+// The limits of sides, levels and the lengths of slices, each with what lies past it.
+use crate::answers::end;
+use crate::answers::put;
+use crate::answers::tell;
+use crate::answers::tell_one;
+use crate::pictures;
+use crate::pictures::Picture;
+use crate::planes;
+use crate::planes::Lengths;
+use crate::planes::Plane;
+
+// A plane of zeros in slices of these lengths, each block with covering 1.
+pub fn zeros(side: usize, levels: usize, plane: usize, coverings: usize) -> Plane {
+    Plane {
+        side: side,
+        levels: levels,
+        plane: plane,
+        coverings: coverings,
+        at: 0,
+        value: 0,
+        covering: 1,
+    }
+}
+
+fn put_frame(k: Plane) {
+    put(b"side ", k.side as u64);
+    put(b"levels ", k.levels as u64);
+    put(b"plane ", k.plane as u64);
+    put(b"coverings ", k.coverings as u64);
+}
+
+// Every entry that is lent a plane.
+fn tell_plane(before: bool, words: &[u8], k: Plane) -> bool {
+    let r = tell(before, b"restore", planes::restore(words, k));
+    let q = tell(r, b"keep", planes::keep(k, 1));
+    let t = tell(q, b"threshold", planes::threshold(k, 1));
+    tell(t, b"write", planes::write(k, 256))
+}
+
+// The same after decomposing.
+fn tell_frame(words: &[u8], k: Plane) {
+    let p = Picture {
+        side: k.side,
+        levels: k.levels,
+        samples: k.plane,
+        plane: k.plane,
+        coverings: k.coverings,
+        scratch: k.plane,
+        sample: 0,
+    };
+    let d = tell(true, b"decompose", pictures::decompose(words, p));
+    end(tell_plane(d, words, k));
+}
+
+pub fn frame(words: &[u8], side: usize, levels: usize, plane: usize, coverings: usize) {
+    let k = zeros(side, levels, plane, coverings);
+    put_frame(k);
+    tell_frame(words, k);
+}
+
+// Sides from 0 to past 2^32. Side 512 with short slices is 3, so that it has passed 1 and 2.
+pub fn sides(words: &[u8]) {
+    frame(words, 0, 1, 0, 0);
+    frame(words, 2, 1, 4, 0);
+    frame(words, 4, 1, 16, 1);
+    frame(words, 6, 1, 36, 1);
+    frame(words, 8, 1, 64, 4);
+    frame(words, 512, 1, 16, 1);
+    frame(words, 513, 1, 16, 1);
+    frame(words, 1024, 1, 16, 1);
+    frame(words, 4294967300, 1, 16, 1);
+}
+
+// Levels from 0 to the largest number, on sides 4, 8 and 512.
+pub fn depths(words: &[u8]) {
+    frame(words, 4, 0, 16, 0);
+    frame(words, 4, 2, 16, 1);
+    frame(words, 8, 2, 64, 5);
+    frame(words, 8, 3, 64, 5);
+    frame(words, 512, 8, 16, 1);
+    frame(words, 512, 9, 16, 1);
+    frame(words, 4, 4294967297, 16, 1);
+    frame(words, 4, 18446744073709551615, 16, 1);
+}
+
+// The same before reading the plane's sheet.
+pub fn tell_sheet(words: &[u8], k: Plane) {
+    let v = tell_plane(true, words, k);
+    end(tell(v, b"read", planes::read(k)));
+}
+
+pub fn lengths(words: &[u8], side: usize, levels: usize, plane: usize, coverings: usize) {
+    let k = zeros(side, levels, plane, coverings);
+    put_frame(k);
+    tell_sheet(words, k);
+}
+
+// A plane of its exact length, one place less and one more.
+pub fn planes(words: &[u8]) {
+    lengths(words, 4, 1, 15, 1);
+    lengths(words, 4, 1, 16, 1);
+    lengths(words, 4, 1, 17, 1);
+    lengths(words, 8, 2, 63, 5);
+    lengths(words, 8, 2, 64, 5);
+    lengths(words, 8, 2, 65, 5);
+}
+
+// Coverings as many as the blocks, one less and one more. Keep and threshold are lent none.
+pub fn blocks(words: &[u8]) {
+    lengths(words, 4, 1, 16, 0);
+    lengths(words, 4, 1, 16, 1);
+    lengths(words, 4, 1, 16, 2);
+    lengths(words, 8, 2, 64, 4);
+    lengths(words, 8, 2, 64, 5);
+    lengths(words, 8, 2, 64, 6);
+}
+
+fn filled(words: &[u8], numerators: usize, samples: usize, scratch: usize) {
+    put(b"numerators ", numerators as u64);
+    put(b"samples ", samples as u64);
+    put(b"scratch ", scratch as u64);
+    let l = Lengths {
+        numerators: numerators,
+        samples: samples,
+        scratch: scratch,
+    };
+    tell_one(
+        b"restore",
+        planes::restore_into(words, zeros(4, 1, 16, 1), l),
+    );
+}
+
+// The slices that restoring fills, at side 4: each of its exact length, one place less and one more.
+pub fn restored(words: &[u8]) {
+    filled(words, 16, 16, 16);
+    filled(words, 15, 16, 16);
+    filled(words, 17, 16, 16);
+    filled(words, 16, 15, 16);
+    filled(words, 16, 17, 16);
+    filled(words, 16, 16, 15);
+    filled(words, 16, 16, 17);
+}
