@@ -28,7 +28,7 @@ uint32_t base_read(const uint8_t *text, size_t text_len, int64_t *plane, size_t 
                    size_t *side, size_t *levels);
 uint32_t base_usage(const uint8_t *coverings, size_t coverings_len, uint8_t *buffer, size_t buffer_len, size_t *length);
 
-/* Cuts as base_keep does, but ranked by |W| alone. For the picture that shows what this loses. */
+/* Cuts as base_keep does, but ranked by |W| alone. For the figures in pictures/README.md. */
 uint32_t base_keep_raw(size_t side, size_t levels, int64_t *plane, size_t plane_len, uint64_t quota, size_t *left);
 
 #endif
