@@ -16,7 +16,8 @@ pub struct Cut {
     pub size: usize,
 }
 
-// The buffer for an input: one byte more than an input may have, to see one that is too long.
+// The buffer for an input: one byte more than an input may have, to see one that is too long. Two wrong answers that the contract rules out: a buffer of
+// 65,536 bytes, in which an input that is too long looks like its first 65,536 bytes; and one that goes by another limit than `cutterText` does.
 pub fn input_buffer() -> [u8; 65537]
     ensures { λ r. ⌜ length r ≡ suc inputLimit ⌝ }
 {
