@@ -4,10 +4,10 @@ use mathlib.Core.Path.{_≡_}
 use mathlib.Core.Bool.{cond}
 use mathlib.Core.List.{List, [], _∷_}
 use Prim.Native.Nat.{ℕ, zero, suc, _*_, _-_, _/_, _^_, _<_, _≤_}
-use lib.Dec.{T, leb}
+use lib.Dec.{T, leb, ltb}
 use lib.IntN.{ℤ, pos, natAbs, _*ℤ_}
 use lib.ListN.{length, getD}
-use Rattle.integers.specs.Lists.{oneOf}
+use Rattle.integers.specs.Lists.{every, oneOf}
 use Rattle.coverings.specs.Words.{wordOf}
 use Rattle.coverings.specs.Rule.{Number}
 use Rattle.block.specs.Block.{valuesOf, shapesOf, labelsOf, countIn}
@@ -58,17 +58,17 @@ pub record Slices (R h w : ℕ) (s cs : List ℕ) (Q : Place → ℤ) : Type 0 w
   pub coverings : coversOf R h w s ≡ cs
   pub plane : Planes R h w (imageOf h (planeOf R h w s)) Q
 
--- The four pieces labelled a, b, c and d: each of 0 to 3 is one of them.
-abbrev pub Labelling : ℕ → ℕ → ℕ → ℕ → Type 0
-Labelling a b c d = (a < 4) × (b < 4) × (c < 4) × (d < 4) × ((s : ℕ) → s < 4 → T (oneOf (a ∷ b ∷ c ∷ d ∷ []) s))
+-- "24 possibilities to label the four tetrominoes": the labels of pieces 0, 1, 2, 3, in which each of 0 to 3 stands.
+abbrev pub Labelling : List ℕ → Type 0
+Labelling l = (length l ≡ 4) × T (every (λ a. ltb a 4) l) × T (every (oneOf l) (0 ∷ 1 ∷ 2 ∷ 3 ∷ []))
 
 pub record PublishedLaws : Type 0 where
   -- the example of document 000 comes out
   pub example : Example
   -- (3.1) and (3.2) to the letter, for each covering
   pub equations : (n : ℕ) → Number n → (v : ℕ → ℤ) (l p : ℕ) → p < 4 → coefficient (wordOf n) v l p ≡ half (overPiece (wordOf n) v l p)
-  -- step 3: of all labellings none has fewer deviations
-  pub labels : (w : List ℕ) (a b c d : ℕ) → Labelling a b c d → deviations w (labelsOf w) ≤ deviations w (a ∷ b ∷ c ∷ d ∷ [])
+  -- step 3: the labels are a labelling, and no other has fewer deviations
+  pub labels : (w : List ℕ) → Labelling (labelsOf w) × ((l : List ℕ) → Labelling l → deviations w (labelsOf w) ≤ deviations w l)
   -- in units of 1 / 2 ^ R, halving at R levels is exact
   pub exact : (R h w : ℕ) (cs : ℕ → ℕ) (A : Image) → Exact R h w cs (times (2 ^ R) A)
   -- on even values, which by `exact` they all are, the choice is (3.3) with the rule for ties
