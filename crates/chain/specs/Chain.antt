@@ -9,8 +9,9 @@ use lib.IntN.{ℤ, pos}
 use lib.ListN.{replicate}
 use Rattle.refusals.specs.Refusal.{refuseIf, afterCall}
 use Rattle.integers.specs.Lists.{every}
-use Rattle.pyramid.specs.Sides.{isSide, isDepth, isPlane, isCoverings}
+use Rattle.pyramid.specs.Sides.{isPlane, isCoverings}
 use Rattle.pyramid.specs.Slices.{coversOf, planeOf, numeratorsOf, samplesOf}
+use Rattle.places.specs.Sizes.{sizeRefusal}
 use Rattle.coder.specs.Entries.{isSample}
 use Rattle.quota.specs.Quota.{keptOf, entriesOf, quotaLimit}
 use Rattle.quota.specs.Claims.{Demand}
@@ -19,12 +20,11 @@ use Rattle.quota.specs.Claims.{Demand}
 -- leave passes the others.
 abbrev pub chainRefusal : ℕ → ℕ → ℕ → List ℕ → List ℤ → List ℕ → List ℤ → List ℕ → List ℤ → ℕ
 chainRefusal side levels quota samples plane coverings numerators restored scratch =
-    refuseIf (not (isSide side)) 1
-    (refuseIf (not (isDepth levels side side)) 2
+    sizeRefusal side levels
     (refuseIf (not ((isPlane side side samples && (isPlane side side plane && (isCoverings levels side side coverings && isPlane side side scratch))) && (isPlane side side numerators && isPlane side side restored))) 3
     (refuseIf (not (every isSample samples)) 4
     (refuseIf (ltb (quotaLimit side levels) quota) 7
-    0))))
+    0)))
 
 -- The number answered is n, and `left` the count that comes with it, 0 where the chain is refused. A name with ′ is what the slice holds after the chain.
 pub record Chained (side levels quota : ℕ) (samples : List ℕ) (plane plane′ : List ℤ) (coverings coverings′ : List ℕ) (numerators numerators′ : List ℤ) (restored restored′ : List ℕ) (scratch scratch′ : List ℤ) (n left : ℕ) : Type 0 where

@@ -21,11 +21,9 @@ fn chain_checks(
 ) -> Answer
     ensures { λ r. ⌜ answerOf r ≡ chainRefusal side levels quota (now (samples .entry)) (now (plane .entry)) (now (coverings .entry)) (now (numerators .entry)) (now (restored .entry)) (now (scratch .entry)) ⌝ }
 {
-    if !places::checks::is_side(side) {
-        return Answer::Refused(Refusal::Side);
-    }
-    if !places::checks::is_depth(levels, side) {
-        return Answer::Refused(Refusal::Depth);
+    let sized = places::checks::size_checks(side, levels);
+    if let Answer::Refused(r) = sized {
+        return Answer::Refused(r);
     }
     let area = side * side;
     let blocks = places::checks::count_blocks(levels, side);

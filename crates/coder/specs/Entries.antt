@@ -9,9 +9,10 @@ use lib.ListN.{replicate}
 use Rattle.refusals.specs.Refusal.{refuseIf, afterCall}
 use Rattle.integers.specs.Lists.{every}
 use Rattle.coverings.specs.Entry.{isNumber}
-use Rattle.pyramid.specs.Sides.{isSide, isDepth, isPlane, isCoverings}
+use Rattle.pyramid.specs.Sides.{isPlane, isCoverings}
 use Rattle.pyramid.specs.Ranges.{inRange}
 use Rattle.pyramid.specs.Slices.{imageOf, coversOf, planeOf, numeratorsOf, samplesOf}
+use Rattle.places.specs.Sizes.{sizeRefusal}
 
 -- Document 01, refusal 4: "over 4,095".
 abbrev pub isSample : ℕ → Bool
@@ -20,11 +21,10 @@ isSample s = leb s 4095
 -- Document 01: "decompose 1 2 3 4".
 abbrev pub decomposeRefusal : ℕ → ℕ → List ℕ → List ℤ → List ℕ → List ℤ → ℕ
 decomposeRefusal side levels samples plane coverings scratch =
-    refuseIf (not (isSide side)) 1
-    (refuseIf (not (isDepth levels side side)) 2
+    sizeRefusal side levels
     (refuseIf (not (isPlane side side samples && (isPlane side side plane && (isCoverings levels side side coverings && isPlane side side scratch)))) 3
     (refuseIf (not (every isSample samples)) 4
-    0)))
+    0))
 
 -- n is the number that the call is answered with, 0 where it is accepted; a name with ′ is what the slice holds after the call. "A scratch slice as long as the plane holds zeros after an accepted decomposition".
 pub record Decomposed (side levels : ℕ) (samples : List ℕ) (plane plane′ : List ℤ) (coverings coverings′ : List ℕ) (scratch scratch′ : List ℤ) (n : ℕ) : Type 0 where
@@ -36,12 +36,11 @@ pub record Decomposed (side levels : ℕ) (samples : List ℕ) (plane plane′ :
 -- Document 01: "restore 1 2 3 5 6".
 abbrev pub restoreRefusal : ℕ → ℕ → List ℤ → List ℕ → List ℤ → List ℕ → List ℤ → ℕ
 restoreRefusal side levels plane coverings numerators samples scratch =
-    refuseIf (not (isSide side)) 1
-    (refuseIf (not (isDepth levels side side)) 2
+    sizeRefusal side levels
     (refuseIf (not (isPlane side side plane && (isCoverings levels side side coverings && (isPlane side side numerators && (isPlane side side samples && isPlane side side scratch))))) 3
     (refuseIf (not (every isNumber coverings)) 5
     (refuseIf (not (inRange levels side side (imageOf side plane))) 6
-    0))))
+    0)))
 
 -- "Numerators are given beside samples."
 pub record Restored (side levels : ℕ) (plane : List ℤ) (coverings : List ℕ) (numerators numerators′ : List ℤ) (samples samples′ : List ℕ) (scratch scratch′ : List ℤ) (n : ℕ) : Type 0 where

@@ -4,14 +4,18 @@ ghost use mathlib.Core.Bool.{true};
 ghost use Prim.Native.Nat.{ℕ, _*_, _^_, _<_, _≤_};
 ghost use lib.ListN.{length};
 ghost use Rattle.integers.specs.Lists.{every};
+ghost use Rattle.refusals.specs.Refusal.{answerOf, afterCall};
 ghost use Rattle.coverings.specs.Entry.{isNumber};
 ghost use Rattle.pyramid.specs.Plane.{allBlocks};
 ghost use Rattle.pyramid.specs.Sides.{isSide, isDepth};
 ghost use Rattle.pyramid.specs.Slices.{imageOf};
 ghost use Rattle.pyramid.specs.Ranges.{fitsRange, inRange};
+ghost use Rattle.places.specs.Sizes.{sizeRefusal};
 ghost use Rattle.places.specs.Walk.{Inside, entryOf};
 ghost use Rattle.places.specs.Walk.{indexIn};
 use crate::walk::Walk;
+use refusals::Answer;
+use refusals::Refusal;
 
 // Whether n is a side.
 pub fn is_side(n: usize) -> bool
@@ -39,6 +43,20 @@ pub fn is_depth(levels: usize, side: usize) -> bool
         8 => 512 <= side,
         _ => false,
     }
+}
+
+// The checks 1 and 2, with which each list of a picture or a plane begins; `rest` is what the checks behind them give.
+// Two wrong answers that the contract rules out: 2 for a side of 12 with no levels; refusing side 512 with 8 levels.
+pub fn size_checks(side: usize, levels: usize) -> Answer
+    ensures { λ r. ⌜ ((rest : ℕ) → sizeRefusal side levels rest ≡ afterCall (answerOf r) rest (answerOf r)) ⌝ }
+{
+    if !is_side(side) {
+        return Answer::Refused(Refusal::Side);
+    }
+    if !is_depth(levels, side) {
+        return Answer::Refused(Refusal::Depth);
+    }
+    Answer::Done
 }
 
 // The number of blocks of all levels.

@@ -1,6 +1,6 @@
 -- The two laws of sheets: what is written is read back, and what is read is what is written. Assumes nothing.
 use mathlib.Core.Path.{_≡_, refl, sym, ap, _∙_, subst}
-use mathlib.Core.Bool.{Bool, true, false, cond, not, _&&_}
+use mathlib.Core.Bool.{Bool, true, false, cond, _&&_}
 use mathlib.Core.List.{List, [], _∷_, _++_, map}
 use mathlib.Core.Option.{Option, none, some}
 use Prim.Native.Nat.{ℕ, zero, suc, _+_, _-_, _*_, _^_, _<_, _≤_}
@@ -11,7 +11,7 @@ use lib.Dec.{leb, ltb, eqb}
 use lib.IntN.{ℤ, pos, negsuc, natAbs}
 use lib.ListN.{length, getD, replicate, length-replicate}
 use Rattle.integers.specs.Lists.{every}
-use Rattle.refusals.specs.Refusal.{refuseIf}
+use Rattle.refusals.proofs.After.{past}
 use Rattle.coverings.specs.Entry.{isNumber}
 use Rattle.text.specs.Text.{render, parse, Fits, FitsCount, FitsRows, FitsRow, FitsValue, areSections, isSection}
 use Rattle.text.specs.Lines.{two, four, five, cellAt}
@@ -30,7 +30,7 @@ use Rattle.sheet_text.proofs.Each.{Each}
 use Rattle.integers.proofs.Tests.{both-true}
 use Rattle.sheet_text.proofs.Lines.{two-is, covers-back, values-back, Rows, covers-rows, Values, values-rows, valueRows, rows-values}
 use Rattle.sheet_text.proofs.Spread.{length-spread, values-spread, spread-values}
-use Rattle.places.proofs.Sides.{Passed, passed}
+use Rattle.places.proofs.Sides.{Passed, passed, size-past}
 use Rattle.sheet_text.proofs.Layouts.{SmallPlace, SmallBlock, places-small, blocks-small, blocks-count, indexes, inside, onto, keys}
 
 -- ---- lines that are written fit
@@ -81,19 +81,14 @@ pub record Valid (n R : ℕ) (P : List ℤ) (cs : List ℕ) : Type 0 where
   pub numbers : every isNumber cs ≡ true
   pub range : inRange R n n (imageOf n P) ≡ true
 
-passes : (b : Bool) (n rest : ℕ) → refuseIf (not b) (suc n) rest ≡ 0 → (b ≡ true) × (rest ≡ 0)
-passes true n rest e = (refl, e)
-passes false n rest e = absurd (omega arith)
-
 pub write-checks : (n R : ℕ) (P : List ℤ) (cs buffer : List ℕ) → writeRefusal n R P cs buffer ≡ 0 → Valid n R P cs
 write-checks n R P cs buffer h =
-    let h₁ = passes (isSide n) 0 _ h in
-    let h₂ = passes (isDepth R n n) 1 _ (h₁ .1) in
-    let h₃ = passes (isPlane n n P && isCoverings R n n cs) 2 _ (h₂ .1) in
+    let h₂ = size-past n R (sym h) in
+    let h₃ = past (isPlane n n P && isCoverings R n n cs) 2 (h₂ .1) in
     let l = both-true (isPlane n n P) (isCoverings R n n cs) (h₃ .0) in
-    let h₅ = passes (every isNumber cs) 4 _ (h₃ .1) in
-    let h₆ = passes (inRange R n n (imageOf n P)) 5 _ (h₅ .1) in
-    record { side = h₁ .0; levels = h₂ .0; plane = l .0; coverings = l .1; numbers = h₅ .0; range = h₆ .0 }
+    let h₅ = past (every isNumber cs) 4 (h₃ .1) in
+    let h₆ = past (inRange R n n (imageOf n P)) 5 (h₅ .1) in
+    record { side = h₂ .0 .sided; levels = h₂ .0 .deep; plane = l .0; coverings = l .1; numbers = h₅ .0; range = h₆ .0 }
 
 form-good : areSections sheetForm ≡ true
 unfolding areSections isSection
@@ -212,24 +207,23 @@ said-at : (n R : ℕ) (bl en : List (List ℤ)) → FitsRows four bl → FitsRow
 unfolding inRange
 said-at n R bl en fb fe P cs h =
     let rows = rowsFrom n R bl en in
-    let h₁ = passes (isSide n) 0 _ h in
-    let h₂ = passes (isDepth R n n) 1 _ (h₁ .1) in
-    let h₃ = passes (isPlane n n P && isCoverings R n n cs) 2 _ (h₂ .1) in
-    let h₁₁ = passes (isSome (saidCoverings rows) && isSome (saidValues rows)) 10 _ (h₃ .1) in
+    let h₂ = size-past n R (sym h) in
+    let h₃ = past (isPlane n n P && isCoverings R n n cs) 2 (h₂ .1) in
+    let h₁₁ = past (isSome (saidCoverings rows) && isSome (saidValues rows)) 10 (h₃ .1) in
     let b = both-true (isSome (saidCoverings rows)) (isSome (saidValues rows)) (h₁₁ .0) in
-    let h₅ = passes (every isNumber (coveringsIn rows)) 4 _ (h₁₁ .1) in
-    let h₆ = passes (inRange R n n (imageOf n (planeIn rows))) 5 _ (h₅ .1) in
+    let h₅ = past (every isNumber (coveringsIn rows)) 4 (h₁₁ .1) in
+    let h₆ = past (inRange R n n (imageOf n (planeIn rows))) 5 (h₅ .1) in
     let c = covers-rows (blockPlaces R n n) bl (coveringsIn rows) fb (some-in (saidCoverings rows) (b .0)) in
     let v = values-rows (planePlaces R n n) en (listIn (saidValues rows)) fe (some-in (saidValues rows) (b .1)) in
     let z = replicate (n * n) (pos 0) in
     let zl = length-replicate (n * n) (pos 0) in
-    let q = passed n R (h₁ .0) (h₂ .0) in
+    let q = h₂ .0 in
     let pl : length (planeIn rows) ≡ n * n = length-spread n (planePlaces R n n) (listIn (saidValues rows)) z ∙ zl in
     record {
       rows-are = (λ i. (headOf n R ∷ []) ∷ c .lines i ∷ (sym (rows-values (imageOf n (planeIn rows)) (planePlaces R n n)) ∙ ap (valueRows (planePlaces R n n)) (taken R q (listIn (saidValues rows)) (v .length)) ∙ v .lines) i ∷ []);
       valid = record {
-        side = h₁ .0;
-        levels = h₂ .0;
+        side = q .sided;
+        levels = q .deep;
         plane = eq-eqb (length (planeIn rows)) (n * n) pl;
         coverings = eq-eqb (length (coveringsIn rows)) (allBlocks R n n) (c .length ∙ blocks-count 0 R n n);
         numbers = h₅ .0;
@@ -259,9 +253,9 @@ parsed-in t e = some-in (parse sheetForm t) e
 
 forth : (t : List ℕ) (P : List ℤ) (cs buffer : List ℕ) → readRefusal t P cs ≡ 0 → GivesAgain t (sideIn (rowsOf t)) (levelsIn (rowsOf t)) (planeIn (rowsOf t)) (coveringsIn (rowsOf t)) buffer
 forth t P cs buffer h =
-    let h₉ = passes (isSome (parse sheetForm t)) 8 _ h in
+    let h₉ = past (isSome (parse sheetForm t)) 8 (sym h) in
     let x = parse-sound sheetForm t (rowsOf t) (parsed-in t (h₉ .0)) in
-    let s = said (rowsOf t) (three (rowsOf t) (x .fits)) P cs (h₉ .1) in
+    let s = said (rowsOf t) (three (rowsOf t) (x .fits)) P cs (sym (h₉ .1)) in
     let e = ap (render sheetForm) (s .rows-are) ∙ x .text in
     record { accepted = λ l. accepts _ _ _ _ buffer (s .valid) (subst (λ (u : List ℕ). length u ≤ length buffer) (sym e) l); same = e }
 

@@ -10,10 +10,11 @@ use lib.ListN.{length, getD, replicate}
 use Rattle.integers.specs.Lists.{every}
 use Rattle.refusals.specs.Refusal.{refuseIf}
 use Rattle.coverings.specs.Entry.{isNumber}
-use Rattle.pyramid.specs.Sides.{isSide, isDepth, isPlane, isCoverings}
+use Rattle.pyramid.specs.Sides.{isPlane, isCoverings}
 use Rattle.pyramid.specs.Slices.{imageOf}
 use Rattle.pyramid.specs.Ranges.{inRange}
 use Rattle.pyramid.specs.Places.{planePlaces, blockPlaces}
+use Rattle.places.specs.Sizes.{sizeRefusal}
 use Rattle.text.specs.Text.{rowsText, render, parse}
 use Rattle.text.specs.Bytes.{bytes}
 use Rattle.text.specs.Write.{cellText}
@@ -55,12 +56,11 @@ sheetText side levels plane coverings = render sheetForm (sheetRows (headOf side
 -- Document 01: "write 1 2 3 5 6 10".
 abbrev pub writeRefusal : ℕ → ℕ → List ℤ → List ℕ → List ℕ → ℕ
 writeRefusal side levels plane coverings buffer =
-    refuseIf (not (isSide side)) 1
-    (refuseIf (not (isDepth levels side side)) 2
+    sizeRefusal side levels
     (refuseIf (not (isPlane side side plane && isCoverings levels side side coverings)) 3
     (refuseIf (not (every isNumber coverings)) 5
     (refuseIf (not (inRange levels side side (imageOf side plane))) 6
-    (refuseIf (ltb (length buffer) (length (sheetText side levels plane coverings))) 10 0)))))
+    (refuseIf (ltb (length buffer) (length (sheetText side levels plane coverings))) 10 0))))
 
 -- ---- read
 
@@ -99,12 +99,11 @@ planeIn rows = spread (sideIn rows) (planePlaces (levelsIn rows) (sideIn rows) (
 -- Document 01: "read 9 1 2 3 11 5 6", for a plane and coverings that are lent; first what follows 9.
 abbrev pub judge : List (List (List ℤ)) → List ℤ → List ℕ → ℕ
 judge rows plane coverings =
-    refuseIf (not (isSide (sideIn rows))) 1
-    (refuseIf (not (isDepth (levelsIn rows) (sideIn rows) (sideIn rows))) 2
+    sizeRefusal (sideIn rows) (levelsIn rows)
     (refuseIf (not (isPlane (sideIn rows) (sideIn rows) plane && isCoverings (levelsIn rows) (sideIn rows) (sideIn rows) coverings)) 3
     (refuseIf (not (isSome (saidCoverings rows) && isSome (saidValues rows))) 11
     (refuseIf (not (every isNumber (coveringsIn rows))) 5
-    (refuseIf (not (inRange (levelsIn rows) (sideIn rows) (sideIn rows) (imageOf (sideIn rows) (planeIn rows)))) 6 0)))))
+    (refuseIf (not (inRange (levelsIn rows) (sideIn rows) (sideIn rows) (imageOf (sideIn rows) (planeIn rows)))) 6 0))))
 
 abbrev pub readRefusal : List ℕ → List ℤ → List ℕ → ℕ
 readRefusal t plane coverings = refuseIf (not (isSome (parse sheetForm t))) 9 (judge (rowsOf t) plane coverings)
