@@ -1,13 +1,13 @@
 // The limits of sides, levels and the lengths of slices, each with what lies past it.
-use crate::answers::end;
-use crate::answers::put;
-use crate::answers::tell;
-use crate::answers::tell_one;
 use crate::pictures;
 use crate::pictures::Picture;
-use crate::planes;
-use crate::planes::Lengths;
-use crate::planes::Plane;
+use pairs::answers::end;
+use pairs::answers::put;
+use pairs::answers::tell;
+use pairs::answers::tell_one;
+use pairs::planes;
+use pairs::planes::Lengths;
+use pairs::planes::Plane;
 
 // A plane of zeros in slices of these lengths, each block with covering 1.
 pub fn zeros(side: usize, levels: usize, plane: usize, coverings: usize) -> Plane {

@@ -1,13 +1,13 @@
 // The largest picture: side 512 with 8 levels, which has 21,845 blocks. Its sheet is written; to decompose it the second implementation, which counts
 // the earlier choices anew for each covering of each block, would take thousands of millions of steps.
-use crate::answers::Pair;
-use crate::answers::put;
-use crate::answers::put_signed;
-use crate::answers::tell_one;
-use crate::front;
 use cases::answers::outcome;
 use cases::safe::put_value;
 use cases::tally::same_bytes;
+use pairs::answers::Pair;
+use pairs::answers::put;
+use pairs::answers::put_signed;
+use pairs::answers::tell_one;
+use pairs::front;
 
 // Both write the sheet, which has 220,711 bytes and the line of the value.
 fn both_write(plane: &[i64], coverings: &[u8]) -> Pair {

@@ -1,12 +1,12 @@
 // The limits of words and of usage lists, each with what lies past it.
-use crate::answers::Pair;
-use crate::answers::numbered;
-use crate::answers::put;
-use crate::answers::tell_one;
-use crate::front;
 use cases::answers::outcome;
 use cases::safe::put_byte;
 use cases::tally::same_bytes;
+use pairs::answers::Pair;
+use pairs::answers::numbered;
+use pairs::answers::put;
+use pairs::answers::tell_one;
+use pairs::front;
 
 fn pieces(words: &[u8], covering: u8, n: usize) -> Pair {
     let mut word = [9u8; 17];

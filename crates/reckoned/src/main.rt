@@ -1,22 +1,15 @@
 // Runs the entries beside the plain second implementation, which shares nothing with them: first the examples of document 01's "Reckoned by hand" that
 // are not in the proved table, then both sides of every limit of its table of refusals, by number. A line has what was asked, for each entry its name,
 // the number of its answer and that of the second implementation, 0 where the call is accepted, and whether the two agree in all that they answer and
-// leave in the slices. What is proved says that code and definition have the same limits; the stored output of this program says which.
-mod answers;
+// leave in the slices. What is proved says that code and definition have the same limits; the stored output of this program says which. Texts that are
+// read are the part of `reckoned_text`.
+use pairs::answers::heading;
+
 mod frames;
-mod front;
 mod large;
-mod left;
 mod lists;
 mod pictures;
-mod planes;
-mod texts;
 mod values;
-
-fn heading(name: &[u8]) {
-    io::write_all(1, name);
-    io::write_all(1, b"\n");
-}
 
 // The blocks of a picture are told by the number of coverings that its plane takes.
 fn examples(words: &[u8]) {
@@ -35,10 +28,8 @@ fn examples(words: &[u8]) {
 fn frame(words: &[u8]) {
     heading(b"1 side");
     frames::sides(words);
-    texts::sides();
     heading(b"2 depth");
     frames::depths(words);
-    texts::depths();
 }
 
 fn lengths(words: &[u8]) {
@@ -69,18 +60,10 @@ fn numbers() {
     values::limits();
 }
 
-fn sheets() {
-    heading(b"9 text");
-    texts::sizes();
-    texts::signs();
+fn rooms() {
     heading(b"10 tray");
     values::rooms();
     lists::usage_rooms();
-    heading(b"11 sequence");
-    texts::blocks();
-    texts::places();
-    texts::order();
-    texts::deep();
 }
 
 fn main() {
@@ -91,5 +74,5 @@ fn main() {
     lengths(&words);
     contents(&words);
     numbers();
-    sheets();
+    rooms();
 }

@@ -1,11 +1,11 @@
 // Decomposing a flat picture, by the coder and by the plain second implementation.
-use crate::answers::Pair;
-use crate::answers::numbered;
-use crate::answers::put;
-use crate::answers::tell_one;
-use crate::front;
-use crate::left::Left;
-use crate::left::pair;
+use pairs::answers::Pair;
+use pairs::answers::numbered;
+use pairs::answers::put;
+use pairs::answers::tell_one;
+use pairs::front;
+use pairs::left::Left;
+use pairs::left::pair;
 
 // A call: side and levels, the lengths of its slices, and the value of every sample.
 pub struct Picture {

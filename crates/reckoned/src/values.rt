@@ -1,11 +1,11 @@
 // The limits of what the slices hold, and of quotas, thresholds and buffers, each with what lies past it.
-use crate::answers::put;
-use crate::answers::put_signed;
-use crate::answers::tell_one;
 use crate::frames::tell_sheet;
 use crate::frames::zeros;
-use crate::planes;
-use crate::planes::Plane;
+use pairs::answers::put;
+use pairs::answers::put_signed;
+use pairs::answers::tell_one;
+use pairs::planes;
+use pairs::planes::Plane;
 use plain_frame::safe::add;
 
 fn covering(words: &[u8], covering: u8) {

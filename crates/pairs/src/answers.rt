@@ -65,3 +65,9 @@ pub fn end(agreed: bool) {
 pub fn tell_one(entry: &[u8], p: Pair) {
     end(tell(true, entry, p));
 }
+
+// The line above those of one refusal.
+pub fn heading(name: &[u8]) {
+    io::write_all(1, name);
+    io::write_all(1, b"\n");
+}

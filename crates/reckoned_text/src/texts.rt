@@ -1,8 +1,8 @@
 // The limits of texts that are read, each with what lies past it.
-use crate::answers::Pair;
-use crate::answers::tell_one;
-use crate::front;
-use crate::planes::read_text;
+use pairs::answers::Pair;
+use pairs::answers::tell_one;
+use pairs::front;
+use pairs::planes::read_text;
 use plain_text::writing::put_text;
 
 // A line, or none where it is empty.
