@@ -4,6 +4,7 @@ ghost use mathlib.Core.List.{map};
 ghost use Prim.Native.Nat.{ℕ, _+_, _*_, _/_, _^_, _<_, _≤_};
 ghost use lib.IntN.{pos, natAbs};
 ghost use lib.ListN.{length, getD, replicate};
+ghost use Rattle.slices.specs.Stores.{rectangles};
 ghost use Rattle.tables.specs.Tables.{cellTable};
 ghost use Rattle.kernel.specs.Kernel.{Within};
 ghost use Rattle.pyramid.specs.Plane.{after, listed};
@@ -138,7 +139,41 @@ fn merge_level(
     }
 }
 
-// The numerators of a plane: each level's bands merged, the last level first. The scratch is left empty.
+// One level up: its bands, merged to the scratch, and the square of `tall` rows and `wide` columns copied back.
+// Two wrong answers that the contract rules out: the square left in the scratch; and the entries outside the square changed.
+fn rise(
+    cells: &[u8; 1872],
+    height: usize,
+    tall: usize,
+    wide: usize,
+    weight: u64,
+    first: usize,
+    coverings: &[u8],
+    numerators: &mut [i64],
+    scratch: &mut [i64],
+)
+    requires { ⌜ now cells ≡ cellTable ⌝ }
+    requires { ⌜ Level height tall wide weight first (now coverings) (now numerators) ⌝ }
+    requires { ⌜ length (now scratch) ≡ length (now numerators) ⌝ }
+    ensures { λ _. ⌜ now (scratch .exit) ≡ putColumns height (mergedBlock height tall wide weight (after first (listed (now (coverings .entry)))) (now (numerators .entry))) (tall / 4) (wide / 4) (now (scratch .entry)) ⌝ }
+    ensures { λ _. ⌜ now (numerators .exit) ≡ rectangles height tall wide (putColumns height (mergedBlock height tall wide weight (after first (listed (now (coverings .entry)))) (now (numerators .entry))) (tall / 4) (wide / 4) (now (scratch .entry))) (now (numerators .entry)) ⌝ }
+{
+    merge_level(
+        cells,
+        numerators,
+        height,
+        tall,
+        wide,
+        weight,
+        first,
+        coverings,
+        scratch,
+    );
+    slices::copy_rectangle(scratch, numerators, height, tall, wide);
+}
+
+// The numerators of a plane: each level's bands merged, the last level first. The first level, most of the work, is called for apart, so that `rise` has
+// two callers and stays a function of its own in the machine code. The scratch is left empty.
 // Two wrong answers that the contract rules out: each level's W counted once; and the first level merged first.
 fn synthesise(
     cells: &[u8; 1872],
@@ -160,25 +195,35 @@ fn synthesise(
     let mut left = levels;
     let mut first = coverings.len();
     let mut weight: u64 = 1;
-    while left > 0 {
+    while left > 1 {
         left -= 1;
         let tall = height >> left;
         let wide = width >> left;
         first -= wide / 4 * (tall / 4);
-        merge_level(
+        rise(
             cells,
-            numerators,
             height,
             tall,
             wide,
             weight,
             first,
             coverings,
+            numerators,
             scratch,
         );
-        slices::copy_rectangle(scratch, numerators, height, tall, wide);
         weight *= 4;
     }
+    rise(
+        cells,
+        height,
+        height,
+        width,
+        weight,
+        0,
+        coverings,
+        numerators,
+        scratch,
+    );
     slices::clear(scratch);
 }
 

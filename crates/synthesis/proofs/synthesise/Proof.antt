@@ -19,7 +19,7 @@ use Rattle.synthesis.proofs.synthesise.Tie as tie
 
 abbrev Inv-loop : tie.InvT-loop
 Inv-loop cells height width levels plane coverings numerators₀ scratch₀ left₀ first₀ weight₀ numerators scratch left first weight =
-    (left ≤ levels) × (first ≡ allBlocks left height width) × (weight ≡ 4 ^ (levels - left)) × (length numerators ≡ width * height) × (length scratch ≡ width * height) × Reached height width left (levels - left) coverings (imageOf height plane) (imageOf height numerators)
+    (left ≤ levels) × (first ≡ allBlocks left height width) × (weight ≡ 4 ^ (levels - left)) × (length numerators ≡ width * height) × (length scratch ≡ width * height) × Reached height width left (levels - left) coverings (imageOf height plane) (imageOf height numerators) × (1 ≤ left)
 
 abbrev μ-loop : tie.MeasureT-loop
 μ-loop cells height width levels plane coverings numerators₀ scratch₀ left₀ first₀ weight₀ numerators scratch left first weight = left
@@ -50,12 +50,18 @@ values c =
     let a = c .before .before .before .before .before .before .args in
     mergedBlock (a .height) (a .height / 2 ^ (l .left - 1)) (a .width / 2 ^ (l .left - 1)) (l .weight) (after (l .first - a .width / 2 ^ (l .left - 1) / 4 * (a .height / 2 ^ (l .left - 1) / 4)) (listed (a .coverings .now))) (l .numerators)
 
-scratch-length : (c : tie.After-merge-level Inv-loop μ-loop) → let a = c .before .before .before .before .before .before .before .before .before .args in length (c .merge-level .last .1 .1 .1 .1 .1 .1 .1 .1 .0) ≡ a .width * a .height
+scratch-length : (c : tie.In-loop Inv-loop μ-loop) → let l = c .before .loop in let a = c .before .before .before .before .before .before .args in length (putColumns (a .height) (values c) (a .height / 2 ^ (l .left - 1) / 4) (a .width / 2 ^ (l .left - 1) / 4) (l .scratch)) ≡ a .width * a .height
 scratch-length c =
-    let i = c .before .before .before in
-    let l = i .before .loop in
-    let a = i .before .before .before .before .before .before .args in
-    ap length (c .merge-level .ensures) ∙ columns-length (a .height) (values i) (a .height / 2 ^ (l .left - 1) / 4) (a .width / 2 ^ (l .left - 1) / 4) (l .scratch) (omega (arith, level i .inside)) ∙ l .inv .4
+    let l = c .before .loop in
+    let a = c .before .before .before .before .before .before .args in
+    columns-length (a .height) (values c) (a .height / 2 ^ (l .left - 1) / 4) (a .width / 2 ^ (l .left - 1) / 4) (l .scratch) (omega (arith, level c .inside)) ∙ l .inv .4
+
+-- the first level, behind the loop
+last : (c : tie.After-loop Inv-loop μ-loop) → let l = c .before .loop in let a = c .before .before .before .before .before .before .args in Turn (a .levels) (a .height) (a .width) (l .left) (a .height) (a .width) 0 (l .weight) 0
+last c = let l = c .before .loop in record { is = omega arith; within = l .inv .0; tall-is = refl; wide-is = refl; first-is = refl; weight-is = l .inv .2 }
+
+last-level : (c : tie.After-loop Inv-loop μ-loop) → let l = c .before .loop in let a = c .before .before .before .before .before .before .args in Level (a .height) (a .height) (a .width) (l .weight) 0 (a .coverings .now) (l .numerators)
+last-level c = let l = c .before .loop in turn-level (c .before .before .before .before .before .before .pre .1 .0) (last c) (l .numerators) (l .inv .3) (l .inv .5)
 
 copy-requires : tie.Need-copy-requires Inv-loop μ-loop
 copy-requires c κs = let s = c .before .before in omega (arith, s .pre .1 .0 .plane-long, s .pre .1 .1 .0)
@@ -72,6 +78,7 @@ loop-holds c =
       ap length e ∙ s .pre .1 .0 .plane-long,
       s .pre .1 .1 .1,
       rw (none, e) (reach-none (s .pre .1 .0)),
+      s .pre .1 .0 .some,
     )
 
 sub-left : tie.Need-sub-left Inv-loop μ-loop
@@ -89,44 +96,44 @@ mul-first c = omega (arith, level c .covered, c .before .before .before .before 
 sub-first : tie.Need-sub-first Inv-loop μ-loop
 sub-first c = takes c
 
-merge-level-requires : tie.Need-merge-level-requires Inv-loop μ-loop
-merge-level-requires c κs =
+rise-requires : tie.Need-rise-requires Inv-loop μ-loop
+rise-requires c κs =
     let i = c .before .before in
     let s = i .before .before .before .before .before .before in
-    (s .pre .0, (level i, omega (arith, level i .long, i .before .loop .inv .3, i .before .loop .inv .4)))
-
-copy-rectangle-requires : tie.Need-copy-rectangle-requires Inv-loop μ-loop
-copy-rectangle-requires c κs =
-    let i = c .before .before .before .before .before .before in
-    (level i .inside, omega (arith, level i .long, i .before .loop .inv .3, scratch-length (c .before .before .before)), level i .long)
+    (s .pre .0, (level i, omega (arith, i .before .loop .inv .3, i .before .loop .inv .4)))
 
 mul-weight : tie.Need-mul-weight Inv-loop μ-loop
-mul-weight c = omega (arith, level (c .before .before .before .before .before .before .before .before) .weight)
+mul-weight c = omega (arith, level (c .before .before .before .before .before) .weight)
 
 loop-less : tie.Need-loop-less Inv-loop μ-loop
 loop-less c = omega arith
 
 loop-again : tie.Need-loop-again Inv-loop μ-loop
 loop-again c =
-    let m = c .before .before .before .before .before in
-    let i = m .before .before .before in
+    let i = c .before .before .before .before .before in
     let l = i .before .loop in
     let s = i .before .before .before .before .before .before in
     let a = s .args in
     let d = l .left - 1 in
     let tall = a .height / 2 ^ d in
     let wide = a .width / 2 ^ d in
-    let merged : c .before .copy-rectangle .last .1 .0 ≡ rectangles (a .height) tall wide (putColumns (a .height) (values i) (tall / 4) (wide / 4) (l .scratch)) (l .numerators) =
-    c .before .copy-rectangle .ensures ∙ ap (λ (x : List ℤ). rectangles (a .height) tall wide x (l .numerators)) (m .merge-level .ensures) in
+    let r = c .before .before .rise .ensures in
     let e : a .levels - d ≡ suc (a .levels - l .left) = omega arith in (
       omega arith,
       turn i .first-is,
       omega (arith, l .inv .2, ap (λ (n : ℕ). 4 ^ n) e, pow-suc 4 (a .levels - l .left)),
-      ap length merged ∙ length-rectangles (putColumns (a .height) (values i) (tall / 4) (wide / 4) (l .scratch)) (a .height) tall (level i .inside) (l .numerators) wide ∙ l .inv .3,
-      scratch-length m,
-      subst⁻¹ (λ (x : List ℤ). Reached (a .height) (a .width) d (a .levels - d) (a .coverings .now) (imageOf (a .height) (a .plane .now)) (imageOf (a .height) x)) merged
+      ap length (r .1) ∙ length-rectangles (putColumns (a .height) (values i) (tall / 4) (wide / 4) (l .scratch)) (a .height) tall (level i .inside) (l .numerators) wide ∙ l .inv .3,
+      ap length (r .0) ∙ scratch-length i,
+      subst⁻¹ (λ (x : List ℤ). Reached (a .height) (a .width) d (a .levels - d) (a .coverings .now) (imageOf (a .height) (a .plane .now)) (imageOf (a .height) x)) (r .1)
           (turn-reached (s .pre .1 .0) (turn i) (l .numerators) (l .inv .3) (l .inv .5) (l .scratch) (l .inv .4)),
+      omega arith,
     )
+
+rise-requires-2 : tie.Need-rise-requires-2 Inv-loop μ-loop
+rise-requires-2 c κs =
+    let i = c .before .before in
+    let s = i .before .before .before .before .before .before in
+    (s .pre .0, (last-level i, omega (arith, i .before .loop .inv .3, i .before .loop .inv .4)))
 
 clear-requires : tie.Need-clear-requires Inv-loop μ-loop
 clear-requires c κs = tt
@@ -139,15 +146,21 @@ same-length-2 c = search needs
 
 returns : tie.Need-returns Inv-loop μ-loop
 returns c =
-    let l = c .before .before .before .before in
-    let s = l .before .before .before .before .before in
+    let m = c .before .before .before .before .before in
+    let i = m .before .before .before in
+    let l = i .before .loop in
+    let s = i .before .before .before .before .before .before in
     let a = s .args in
-    let e : l .loop .left ≡ 0 = omega arith in
-    let q : a .levels - l .loop .left ≡ a .levels = omega arith in (
-      reach-all (s .pre .1 .0) (l .loop .numerators) (l .loop .inv .3)
-          (subst (λ (k : ℕ). Reached (a .height) (a .width) 0 k (a .coverings .now) (imageOf (a .height) (a .plane .now)) (imageOf (a .height) (l .loop .numerators))) q
-          (subst (λ (k : ℕ). Reached (a .height) (a .width) k (a .levels - l .loop .left) (a .coverings .now) (imageOf (a .height) (a .plane .now)) (imageOf (a .height) (l .loop .numerators))) e (l .loop .inv .5))),
-      c .before .clear .ensures ∙ ap (λ (n : ℕ). replicate n (pos 0)) (l .loop .inv .4),
+    let r = m .rise2 .ensures in
+    let values : ℕ → ℕ → List ℤ = mergedBlock (a .height) (a .height) (a .width) (l .weight) (after 0 (listed (a .coverings .now))) (l .numerators) in
+    let columns = putColumns (a .height) values (a .height / 4) (a .width / 4) (l .scratch) in
+    let q : a .levels - 0 ≡ a .levels = omega arith in (
+      reach-all (s .pre .1 .0) _ (ap length (r .1) ∙ length-rectangles columns (a .height) (a .height) (last-level i .inside) (l .numerators) (a .width) ∙ l .inv .3)
+          (subst⁻¹ (λ (x : List ℤ). Reached (a .height) (a .width) 0 (a .levels) (a .coverings .now) (imageOf (a .height) (a .plane .now)) (imageOf (a .height) x)) (r .1)
+          (subst (λ (k : ℕ). Reached (a .height) (a .width) 0 k (a .coverings .now) (imageOf (a .height) (a .plane .now)) (imageOf (a .height) (rectangles (a .height) (a .height) (a .width) columns (l .numerators)))) q
+          (turn-reached (s .pre .1 .0) (last i) (l .numerators) (l .inv .3) (l .inv .5) (l .scratch) (l .inv .4)))),
+      c .before .clear .ensures
+          ∙ ap (λ (n : ℕ). replicate n (pos 0)) (ap length (r .0) ∙ columns-length (a .height) values (a .height / 4) (a .width / 4) (l .scratch) (omega (arith, last-level i .inside)) ∙ l .inv .4),
     )
 
 pub synthesise-spec : {M : Type 1} → statement M
@@ -163,11 +176,11 @@ synthesise-spec =
     shr-wide
     mul-first
     sub-first
-    merge-level-requires
-    copy-rectangle-requires
+    rise-requires
     mul-weight
     loop-less
     loop-again
+    rise-requires-2
     clear-requires
     same-length
     same-length-2
