@@ -62,7 +62,7 @@ not-split s p c m r t =
 
 -- The words that go on.
 
-eqList→eq : (xs ys : List ℕ) → T (eqList xs ys) → xs ≡ ys
+pub eqList→eq : (xs ys : List ℕ) → T (eqList xs ys) → xs ≡ ys
 eqList→eq [] [] t = refl
 eqList→eq [] (y ∷ ys) t = absurd t
 eqList→eq (x ∷ xs) [] t = absurd t

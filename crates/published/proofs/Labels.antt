@@ -7,37 +7,29 @@ use Prim.Native.Nat.{ℕ, suc, _<_, _≤_}
 use native.Mathlib.Omega.{arith}
 use lib.Dec.{T, eqb, eqb→eq, ltb, ltb→lt}
 use lib.ListN.{length, getD}
-use lib.Seq.{ext-getD}
 use Rattle.integers.specs.Lists.{every, oneOf}
 use Rattle.integers.specs.Sum.{Σℕ}
 use Rattle.integers.proofs.Sums.{Σℕ-cong}
 use Rattle.integers.proofs.Tests.{both-left, both-right, either, refused, upTo, upTo-at, every-at}
 use Rattle.coverings.specs.Block.{nameOf}
+use Rattle.coverings.proofs.Search.{eqList}
+use Rattle.coverings.proofs.Sound.{eqList→eq}
 use Rattle.block.specs.Block.{labellings, squareOf, differing, labelsOf}
 use Rattle.block.proofs.Labels.{fewest, smallest, squares}
 use Rattle.published.specs.Published.{squareLabel, deviations}
 use Rattle.published.specs.Laws.{Labelling}
 
--- two lists of four labels are the same
-abbrev same : List ℕ → List ℕ → Bool
-same m l = eqb (length m) (length l) && upTo (length m) (λ i. eqb (getD m i 0) (getD l i 0))
-
-same→eq : (m l : List ℕ) → T (same m l) → m ≡ l
-same→eq m l t =
-    ext-getD 0 m l (eqb→eq (length m) (length l) (both-left (eqb (length m) (length l)) _ t))
-    (λ i h. eqb→eq (getD m i 0) (getD l i 0) (upTo-at (length m) (λ i. eqb (getD m i 0) (getD l i 0)) (both-right (eqb (length m) (length l)) _ t) i h))
-
 -- where a list stands among others
 abbrev indexIn : List ℕ → List (List ℕ) → ℕ
 indexIn l [] = 0
-indexIn l (m ∷ ls) = cond (same l m) 0 (suc (indexIn l ls))
+indexIn l (m ∷ ls) = cond (eqList l m) 0 (suc (indexIn l ls))
 
 abbrev whole : List ℕ → Bool
 whole l = every (oneOf l) (0 ∷ 1 ∷ 2 ∷ 3 ∷ [])
 
 -- a labelling is one of the 24
 abbrev among : ℕ → ℕ → ℕ → ℕ → Bool
-among a b c d = let l = a ∷ b ∷ c ∷ d ∷ [] in let i = indexIn l labellings in not (whole l) || (ltb i 24 && same (getD labellings i []) l)
+among a b c d = let l = a ∷ b ∷ c ∷ d ∷ [] in let i = indexIn l labellings in not (whole l) || (ltb i 24 && eqList (getD labellings i []) l)
 
 all-among : T (upTo 4 (λ a. upTo 4 (λ b. upTo 4 (λ c. upTo 4 (λ d. among a b c d)))))
 all-among = tt
@@ -65,7 +57,7 @@ taken w = let s = smallest w in subst⁻¹ Labelling (s .2) (labelling (s .0) (s
 
 -- and no labelling is missing
 least : (w : List ℕ) (a b c d : ℕ) → Labelling (a ∷ b ∷ c ∷ d ∷ []) → deviations w (labelsOf w) ≤ deviations w (a ∷ b ∷ c ∷ d ∷ [])
-least w a b c d g = go (either (not (whole l)) (ltb i 24 && same (getD labellings i []) l) test)
+least w a b c d g = go (either (not (whole l)) (ltb i 24 && eqList (getD labellings i []) l) test)
   where
     l : List ℕ
     l = a ∷ b ∷ c ∷ d ∷ []
@@ -79,10 +71,10 @@ least w a b c d g = go (either (not (whole l)) (ltb i 24 && same (getD labelling
     test : T (among a b c d)
     test = upTo-at 4 (λ d. among a b c d) (upTo-at 4 (λ c. upTo 4 (λ d. among a b c d)) (upTo-at 4 (λ b. upTo 4 (λ c. upTo 4 (λ d. among a b c d))) (upTo-at 4 (λ a. upTo 4 (λ b. upTo 4 (λ c. upTo 4 (λ d. among a b c d)))) all-among a (low 0 (omega arith))) b (low 1 (omega arith))) c (low 2 (omega arith))) d (low 3 (omega arith))
 
-    go : T (not (whole l)) ⊎ T (ltb i 24 && same (getD labellings i []) l) → deviations w (labelsOf w) ≤ deviations w l
+    go : T (not (whole l)) ⊎ T (ltb i 24 && eqList (getD labellings i []) l) → deviations w (labelsOf w) ≤ deviations w l
     go (inl n) = absurd (refused (whole l) n (g .2))
     go (inr t) =
-        let e = same→eq (getD labellings i []) l (both-right (ltb i 24) _ t) in
+        let e = eqList→eq (getD labellings i []) l (both-right (ltb i 24) _ t) in
         let f = fewest w i (ltb→lt i 24 (both-left (ltb i 24) _ t)) in
         subst (λ (m : List ℕ). deviations w (labelsOf w) ≤ deviations w m) e (omega (arith, f, same-deviations w (labelsOf w), same-deviations w (getD labellings i [])))
 
