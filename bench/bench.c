@@ -91,6 +91,9 @@ static void agree(size_t side, size_t levels, int kind)
     b = base_read(buffer[0], length[0], numerators[1], area, coverings[1], blocks, s + 1, l + 1);
     check(a == 0 && b == 0 && s[0] == side && l[0] == levels && s[1] == side && l[1] == levels && !memcmp(plane[0], numerators[0], bytes)
               && !memcmp(plane[0], numerators[1], bytes) && !memcmp(coverings[0], coverings[1], blocks), "sheets read", side, levels);
+    a = tetrolet_usage(coverings[0], blocks, buffer[0], TETROLET_MAX_USAGE, length);
+    b = base_usage(coverings[0], blocks, buffer[1], TETROLET_MAX_USAGE, length + 1);
+    check(a == 0 && b == 0 && length[0] == length[1] && !memcmp(buffer[0], buffer[1], length[0]), "usage lists", side, levels);
     a = tetrolet_restore(side, levels, plane[0], area, coverings[0], blocks, numerators[0], area, samples[0], area, scratch[0], area);
     b = base_restore(side, levels, plane[0], area, coverings[0], blocks, numerators[1], area, samples[1], area, scratch[1], area);
     check(a == 0 && b == 0 && !memcmp(numerators[0], numerators[1], bytes) && !memcmp(samples[0], samples[1], area * sizeof(uint16_t))
@@ -109,7 +112,7 @@ static void agree(size_t side, size_t levels, int kind)
     } while (0)
 
 struct times {
-    double decompose, straight, shared, restore, base_restore, keep, base_keep, write, digits, printed, read, base_read;
+    double decompose, straight, shared, restore, base_restore, keep, base_keep, write, digits, printed, read, base_read, usage, base_usage;
     double kept_write, kept_digits, kept_read, kept_base_read; /* of the plane that keep leaves */
 };
 
@@ -140,6 +143,8 @@ static struct times measure(size_t side, size_t levels)
         TIME(t.write, tetrolet_write(side, levels, p, area, c, blocks, text, TETROLET_MAX_SHEET, &length));
         TIME(t.base_read, base_read(text, length, q, area, d, blocks, &s, &l));
         TIME(t.read, tetrolet_read(text, length, q, area, d, blocks, &s, &l));
+        TIME(t.base_usage, base_usage(c, blocks, text, TETROLET_MAX_USAGE, &length));
+        TIME(t.usage, tetrolet_usage(c, blocks, text, TETROLET_MAX_USAGE, &length));
     }
     return t;
 }
@@ -227,6 +232,7 @@ int main(int argc, char **argv)
     line("read", t.read, "plain", t.base_read, 1.5);
     line("write kept", t.kept_write, "digits", t.kept_digits, 0);
     line("read kept", t.kept_read, "plain", t.kept_base_read, 0);
+    line("usage", t.usage, "one pass", t.base_usage, 0);
 
     printf("\ngrowth with the side, all levels, library, milliseconds (nanoseconds for each sample)\n");
     printf("%5s  %17s  %17s  %17s  %17s  %17s\n", "side", "decompose", "restore", "keep", "write", "read");

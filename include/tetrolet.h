@@ -130,7 +130,7 @@ uint32_t tetrolet_read(const uint8_t *text, size_t text_len, int64_t *plane, siz
                        size_t *side, size_t *levels);
 
 /*
- * Writes the usage list: one line for each covering used, with its count. The order of the lines is open.
+ * Writes the usage list: one line for each covering used, with its count; by falling count, then rising number.
  *   coverings  0 to 21,845 numbers, 1 to 117, read
  *   buffer     any length; the list is written from its start, further bytes stay
  *   length     the number of bytes written

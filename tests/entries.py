@@ -125,20 +125,6 @@ ENTRIES = {
 }
 
 
-# ---- Results that are not fixed to the letter
-
-
-def any_order(got, want, length):
-    """A usage list: its lines in any order, and the further bytes as they were."""
-    return sorted(got[:length].split("\n")) == sorted(want[:length].split("\n")) and got[length:] == want[length:]
-
-
-def same(entry, name, got, want):
-    if entry == "usage" and name == "tray":
-        return any_order(got[name], want[name], got["length"])
-    return got[name] == want[name]
-
-
 def run(e):
     if e["entry"] not in ENTRIES:
         return f"no such entry: {e['entry']}"
@@ -158,7 +144,7 @@ def run(e):
     if n != 0:
         return f"refused with {n}"
     for k, v in e["result"].items():
-        if not same(e["entry"], k, got, e["result"]):
+        if got[k] != v:
             return f"{k} is {got[k]}, not {v}"
     return None
 

@@ -501,38 +501,6 @@ static void call_read(struct tally *t)
     compare(t, a, base_read(sheet->base, sheet->len, plane->base, plane->len, coverings->base, coverings->len, side->base, levels->base));
 }
 
-/* The lines after the first in rising order, for a list whose order is open. */
-static int by_bytes(const void *a, const void *b)
-{
-    return memcmp(a, b, 16);
-}
-
-static void sort_lines(uint8_t *p, size_t n)
-{
-    static uint8_t lines[32768][16];
-    size_t count = 0, at = 0;
-    while (at < n && count < 32768) {
-        size_t end = at;
-        while (end < n && p[end] != '\n')
-            end++;
-        end += end < n;
-        if (end - at > 15)
-            return;
-        memset(lines[count], 0, 16);
-        memcpy(lines[count++], p + at, end - at);
-        at = end;
-    }
-    qsort(lines, count, 16, by_bytes);
-    at = 0;
-    for (size_t k = 0; k < count; k++) {
-        size_t m = strlen((char *)lines[k]);
-        if (m > n - at)
-            return;
-        memcpy(p + at, lines[k], m);
-        at += m;
-    }
-}
-
 static void call_usage(struct tally *t)
 {
     uint64_t kind = below(2000);
@@ -548,11 +516,6 @@ static void call_usage(struct tally *t)
     uint32_t a = tetrolet_usage(coverings->lib, n, buffer->lib, buffer->len, length->lib);
     uint32_t b = base_usage(coverings->base, n, buffer->base, buffer->len, length->base);
     uint32_t c = plain_usage(coverings->plain, n, buffer->plain, buffer->len, length->plain);
-    if (a == 0 && b == 0 && c == 0 && *(size_t *)length->lib == size) {
-        sort_lines(buffer->lib, size);
-        sort_lines(buffer->base, size);
-        sort_lines(buffer->plain, size);
-    }
     compare_plain(t, a, c);
     compare(t, a, b);
 }

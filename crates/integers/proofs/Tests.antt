@@ -3,7 +3,7 @@
 use mathlib.Core.Path.{_≡_, refl, sym, subst, subst⁻¹}
 use mathlib.Core.Logic.{_⊎_, inl, inr}
 use mathlib.Core.Bool.{Bool, true, false, not, _&&_, _||_}
-use mathlib.Core.List.{List, [], _∷_}
+use mathlib.Core.List.{List, [], _∷_, _++_}
 use Prim.Native.Nat.{ℕ, zero, suc, _+_, _<_, _≤_}
 use native.Mathlib.Nat.{not-suc-le-zero, le-of-suc-le-suc}
 use native.Mathlib.Omega.{arith}
@@ -89,6 +89,18 @@ every-at g (x ∷ xs) d t (suc i) h = every-at g xs d (both-right (g x) (every g
 pub every-of : {A : Type 0} (g : A → Bool) (xs : List A) (d : A) → ((i : ℕ) → i < length xs → T (g (getD xs i d))) → T (every g xs)
 every-of g [] d f = tt
 every-of g (x ∷ xs) d f = both (g x) (every g xs) (f 0 (omega arith)) (every-of g xs d (λ i h. f (suc i) (omega arith)))
+
+pub every-append : {A : Type 0} (g : A → Bool) (xs ys : List A) → every g (xs ++ ys) ≡ (every g xs && every g ys)
+every-append g [] ys = refl
+every-append g (x ∷ xs) ys = go (g x) (every-append g xs ys)
+  where
+    go : (b : Bool) → every g (xs ++ ys) ≡ (every g xs && every g ys) → (b && every g (xs ++ ys)) ≡ ((b && every g xs) && every g ys)
+    go true i = i
+    go false i = refl
+
+pub every-through : {A : Type 0} (g h : A → Bool) (xs : List A) → ((x : A) → g x ≡ true → h x ≡ true) → every g xs ≡ true → every h xs ≡ true
+every-through g h [] f e = refl
+every-through g h (x ∷ xs) f e = let p = both-true (g x) (every g xs) e in rw (f x (p .0)) (every-through g h xs f (p .1))
 
 -- one of a list stands somewhere in it
 pub oneOf-at : (ks : List ℕ) (n : ℕ) → T (oneOf ks n) → (i : ℕ) × (i < length ks) × (n ≡ getD ks i 0)

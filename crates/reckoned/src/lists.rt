@@ -1,4 +1,4 @@
-// The limits of words and of usage lists, each with what lies past it.
+// The limits of words and of usage lists, each with what lies past it; and a usage list as it is written.
 use cases::answers::outcome;
 use cases::safe::put_byte;
 use cases::tally::same_bytes;
@@ -53,6 +53,16 @@ fn usage(covering: u8, n: usize, room: usize) {
     let mut coverings = [1u8; 21846];
     put_byte(&mut coverings, 0, covering as usize);
     tell_one(b"usage", both_usage(front::bytes(&coverings, n), room));
+}
+
+// Falling counts, as numbers: 10 before 9; and of equal counts the lower number first. The bytes A, B, C and p are the coverings 65, 66, 67 and 112.
+pub fn usage_order() {
+    let coverings = b"BACBACBACBACBACBACBACBACBACCp";
+    put(b"coverings ", 29);
+    tell_one(b"usage", both_usage(coverings, 64));
+    let mut buffer = [b'?'; 64];
+    let list = outcome(sheet::usage(coverings, &mut buffer));
+    io::write_all(1, front::bytes(&buffer, list.a));
 }
 
 // At most 21,845 coverings, whatever they are.

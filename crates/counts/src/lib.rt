@@ -1,10 +1,11 @@
-// How often each covering was chosen for the earlier blocks. It goes by value from block to block.
+// How often each covering stands in a list: the struct `Usage` of 117 counts, which the choice of coverings hands by value from block to block and from
+// which the usage list is written. specs/Counts.antt has the one definition of the counts, proofs/Counts.antt its laws.
 ghost use mathlib.Core.Path.{_≡_};
 ghost use mathlib.Core.List.{List, [], _∷_, _++_};
 ghost use Prim.Native.Nat.{ℕ, _-_, _+_, _<_, _^_};
 ghost use lib.ListN.{getD};
 ghost use Rattle.coverings.specs.Rule.{Number};
-ghost use Rattle.kernel.specs.Usage.{countsOf};
+ghost use Rattle.counts.specs.Counts.{countsOf};
 
 pub struct Usage {
     pub counts: [u32; 117],
