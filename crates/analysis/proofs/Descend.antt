@@ -12,7 +12,7 @@ use Rattle.slices.specs.Stores.{rectangles}
 use Rattle.slices.proofs.Stores.{rectangles-in, rectangles-out}
 use Rattle.pyramid.specs.Plane.{Image, Fits, blocks, allBlocks, bandsOf, analyse, chosenTo, listed, covers}
 use Rattle.pyramid.specs.Slices.{imageOf, pictureOf, coversOf, planeOf}
-use Rattle.analysis.specs.Analysis.{Square, Small, Levelled}
+use Rattle.analysis.specs.Analysis.{Region, Small, Levelled}
 use Rattle.pyramid.proofs.Finish.{finish, finish-in, finish-zero, Stepped, covers-step, finish-step, low}
 use Rattle.pyramid.proofs.Ranges.{Upto, bands-low}
 use Rattle.pyramid.proofs.Slices.{Agree, slice-of}
@@ -111,10 +111,10 @@ descend-covers R H W s plane cov tall wide first long d =
     let e : first ≡ length cov = let g = d .rest in omega arith in
     sym (take-length cov) ∙ ap (λ (n : ℕ). take n cov) (sym e) ∙ sym (append-nil (take first cov)) ∙ d .covered
 
--- the square of the next level, in the plane and in a slice as long
-pub descend-square : {R H W : ℕ} {s : List ℕ} {plane : List ℤ} {cov : List ℕ} {tall wide first left : ℕ} (m n : ℕ) → H ≤ 512 → W ≤ 512 → m ≡ W * H → n ≡ W * H
-    → Descended R H W s plane cov tall wide first (suc left) → Square H tall wide m n
-descend-square {H} m n a b e g d = record {
+-- the region of the next level, in the plane and in a slice as long
+pub descend-region : {R H W : ℕ} {s : List ℕ} {plane : List ℤ} {cov : List ℕ} {tall wide first left : ℕ} (m n : ℕ) → H ≤ 512 → W ≤ 512 → m ≡ W * H → n ≡ W * H
+    → Descended R H W s plane cov tall wide first (suc left) → Region H tall wide m n
+descend-region {H} m n a b e g d = record {
   low = a;
   narrow = le-trans (d .within) b;
   inside = d .inside;

@@ -6,7 +6,7 @@ use Rattle.refusals.specs.declared.Refusal.{Refusal}
 use Rattle.refusals.specs.declared.Counted.{Counted}
 use Rattle.refusals.specs.declared.Counted.the-variants.{Count, Refused}
 use Rattle.refusals.proofs.After.{unchanged}
-use Rattle.sheet.specs.Read.{readingOf, sideOf, levelsOf}
+use Rattle.sheet.specs.Read.{readingOf, heightOf, widthOf, levelsOf}
 use Rattle.sheet.specs.declared.Reading.{Reading}
 use Rattle.sheet.specs.declared.Reading.the-variants.{Sheet, Refused as Unread}
 use Rattle.c_api.specs.Told.{Told}
@@ -20,14 +20,17 @@ module _ (P : ℕ → ℕ → Type 0) (a : Counted) (h : P (countedOf a) (countO
       subst⁻¹ (λ (m : ℕ). P m (afterCall m old 0) × Told m old old) g
       (subst (λ (z : ℕ). P (numberOf r) z) (unchanged r old 0) (subst (λ (b : Counted). P (countedOf b) (countOf b)) e h), unchanged r old old)
 
-module _ (P : ℕ → ℕ → ℕ → Type 0) (a : Reading) (h : P (readingOf a) (sideOf a) (levelsOf a)) where
-  pub found : (s k : ℕ) → a ≡ Sheet s k → P 0 s k × Told 0 s s × Told 0 k k
-  found s k e = (subst (λ (b : Reading). P (readingOf b) (sideOf b) (levelsOf b)) e h, refl, refl)
+module _ (P : ℕ → ℕ → ℕ → ℕ → Type 0) (a : Reading) (q : P (readingOf a) (heightOf a) (widthOf a) (levelsOf a)) where
+  pub found : (h w k : ℕ) → a ≡ Sheet h w k → P 0 h w k × Told 0 h h × Told 0 w w × Told 0 k k
+  found h w k e = (subst (λ (b : Reading). P (readingOf b) (heightOf b) (widthOf b) (levelsOf b)) e q, refl, refl, refl)
 
-  pub unfound : (r : Refusal) (n s k : ℕ) → a ≡ Unread r → n ≡ numberOf r → P n (afterCall n s 0) (afterCall n k 0) × Told n s s × Told n k k
-  unfound r n s k e g =
-      subst⁻¹ (λ (m : ℕ). P m (afterCall m s 0) (afterCall m k 0) × Told m s s × Told m k k) g (
-        subst (λ (z : ℕ). P (numberOf r) z (afterCall (numberOf r) k 0)) (unchanged r s 0) (subst (λ (z : ℕ). P (numberOf r) 0 z) (unchanged r k 0) (subst (λ (b : Reading). P (readingOf b) (sideOf b) (levelsOf b)) e h)),
-        unchanged r s s,
+  pub unfound : (r : Refusal) (n h w k : ℕ) → a ≡ Unread r → n ≡ numberOf r → P n (afterCall n h 0) (afterCall n w 0) (afterCall n k 0) × Told n h h × Told n w w × Told n k k
+  unfound r n h w k e g =
+      subst⁻¹ (λ (m : ℕ). P m (afterCall m h 0) (afterCall m w 0) (afterCall m k 0) × Told m h h × Told m w w × Told m k k) g (
+        subst (λ (z : ℕ). P (numberOf r) z (afterCall (numberOf r) w 0) (afterCall (numberOf r) k 0)) (unchanged r h 0)
+            (subst (λ (z : ℕ). P (numberOf r) 0 z (afterCall (numberOf r) k 0)) (unchanged r w 0)
+            (subst (λ (z : ℕ). P (numberOf r) 0 0 z) (unchanged r k 0) (subst (λ (b : Reading). P (readingOf b) (heightOf b) (widthOf b) (levelsOf b)) e q))),
+        unchanged r h h,
+        unchanged r w w,
         unchanged r k k,
       )

@@ -1,6 +1,6 @@
 // The entries for callers in C, C++ and Rust: numbers and slices only, each answer as its refusal number, 0 where the call is accepted. A slice passes as a
 // pointer and a count of its elements. The contracts are those of the entries below; include/tetrolet.h has the declarations. Two wrong answers that the
-// contracts rule out besides: side and levels in each other's place; and a number that a refused call sets to 0.
+// contracts rule out besides: height and width in each other's place; and a number that a refused call sets to 0.
 ghost use mathlib.Core.Path.{_≡_};
 ghost use Rattle.refusals.specs.Refusal.{afterCall};
 ghost use Rattle.sheet.specs.Write.{WriteAnswered};
@@ -23,21 +23,23 @@ pub extern "C" fn tetrolet_word(covering: u8, word: &mut [u8]) -> u32
 
 #[no_mangle]
 pub extern "C" fn tetrolet_decompose(
-    side: usize,
+    height: usize,
+    width: usize,
     levels: usize,
     samples: &[u16],
     plane: &mut [i64],
     coverings: &mut [u8],
     scratch: &mut [i64],
 ) -> u32
-    ensures { λ n. ⌜ Decomposed side levels (now (samples .entry)) (now (plane .entry)) (now (plane .exit)) (now (coverings .entry)) (now (coverings .exit)) (now (scratch .entry)) (now (scratch .exit)) n ⌝ }
+    ensures { λ n. ⌜ Decomposed height width levels (now (samples .entry)) (now (plane .entry)) (now (plane .exit)) (now (coverings .entry)) (now (coverings .exit)) (now (scratch .entry)) (now (scratch .exit)) n ⌝ }
 {
-    refusals::code(coder::decompose(side, levels, samples, plane, coverings, scratch))
+    refusals::code(coder::decompose(height, width, levels, samples, plane, coverings, scratch))
 }
 
 #[no_mangle]
 pub extern "C" fn tetrolet_restore(
-    side: usize,
+    height: usize,
+    width: usize,
     levels: usize,
     plane: &[i64],
     coverings: &[u8],
@@ -45,24 +47,34 @@ pub extern "C" fn tetrolet_restore(
     samples: &mut [u16],
     scratch: &mut [i64],
 ) -> u32
-    ensures { λ n. ⌜ Restored side levels (now (plane .entry)) (now (coverings .entry)) (now (numerators .entry)) (now (numerators .exit)) (now (samples .entry)) (now (samples .exit)) (now (scratch .entry)) (now (scratch .exit)) n ⌝ }
+    ensures { λ n. ⌜ Restored height width levels (now (plane .entry)) (now (coverings .entry)) (now (numerators .entry)) (now (numerators .exit)) (now (samples .entry)) (now (samples .exit)) (now (scratch .entry)) (now (scratch .exit)) n ⌝ }
 {
-    refusals::code(coder::restore(side, levels, plane, coverings, numerators, samples, scratch))
+    refusals::code(coder::restore(
+        height,
+        width,
+        levels,
+        plane,
+        coverings,
+        numerators,
+        samples,
+        scratch,
+    ))
 }
 
 // Writes a tetrolet sheet; its length goes to `length`, which a refused call leaves as it was.
 #[no_mangle]
 pub extern "C" fn tetrolet_write(
-    side: usize,
+    height: usize,
+    width: usize,
     levels: usize,
     plane: &[i64],
     coverings: &[u8],
     buffer: &mut [u8],
     length: &mut usize,
 ) -> u32
-    ensures { λ n. ⌜ WriteAnswered side levels (now (plane .entry)) (now (coverings .entry)) (now (buffer .entry)) (now (buffer .exit)) n (afterCall n (now (length .exit)) 0) × Told n (now (length .entry)) (now (length .exit)) ⌝ }
+    ensures { λ n. ⌜ WriteAnswered height width levels (now (plane .entry)) (now (coverings .entry)) (now (buffer .entry)) (now (buffer .exit)) n (afterCall n (now (length .exit)) 0) × Told n (now (length .entry)) (now (length .exit)) ⌝ }
 {
-    let answer = sheet::write(side, levels, plane, coverings, buffer);
+    let answer = sheet::write(height, width, levels, plane, coverings, buffer);
     match answer {
         Counted::Count(k) => {
             *length = k;
@@ -87,21 +99,27 @@ pub extern "C" fn tetrolet_usage(coverings: &[u8], buffer: &mut [u8], length: &m
     }
 }
 
-// Reads a tetrolet sheet; its side and its levels go to `side` and `levels`, which a refused call leaves as they were.
+// Reads a tetrolet sheet; its height, width and levels go to the references of these names, which a refused call leaves as they were.
 #[no_mangle]
 pub extern "C" fn tetrolet_read(
     text: &[u8],
     plane: &mut [i64],
     coverings: &mut [u8],
-    side: &mut usize,
+    height: &mut usize,
+    width: &mut usize,
     levels: &mut usize,
 ) -> u32
-    ensures { λ n. ⌜ ReadAnswered (now (text .entry)) (now (plane .entry)) (now (plane .exit)) (now (coverings .entry)) (now (coverings .exit)) n (afterCall n (now (side .exit)) 0) (afterCall n (now (levels .exit)) 0) × Told n (now (side .entry)) (now (side .exit)) × Told n (now (levels .entry)) (now (levels .exit)) ⌝ }
+    ensures { λ n. ⌜ ReadAnswered (now (text .entry)) (now (plane .entry)) (now (plane .exit)) (now (coverings .entry)) (now (coverings .exit)) n (afterCall n (now (height .exit)) 0) (afterCall n (now (width .exit)) 0) (afterCall n (now (levels .exit)) 0) × Told n (now (height .entry)) (now (height .exit)) × Told n (now (width .entry)) (now (width .exit)) × Told n (now (levels .entry)) (now (levels .exit)) ⌝ }
 {
     let answer = sheet::read(text, plane, coverings);
     match answer {
-        Reading::Sheet { side: n, levels: k } => {
-            *side = n;
+        Reading::Sheet {
+            height: h,
+            width: w,
+            levels: k,
+        } => {
+            *height = h;
+            *width = w;
             *levels = k;
             0
         }
@@ -112,15 +130,16 @@ pub extern "C" fn tetrolet_read(
 // Keeps the largest K; the number of tetrolet entries not zero that are left goes to `left`, which a refused call leaves as it was.
 #[no_mangle]
 pub extern "C" fn tetrolet_keep(
-    side: usize,
+    height: usize,
+    width: usize,
     levels: usize,
     plane: &mut [i64],
     quota: u64,
     left: &mut usize,
 ) -> u32
-    ensures { λ n. ⌜ Kept side levels (now (plane .entry)) (now (plane .exit)) quota n (afterCall n (now (left .exit)) 0) × Told n (now (left .entry)) (now (left .exit)) ⌝ }
+    ensures { λ n. ⌜ Kept height width levels (now (plane .entry)) (now (plane .exit)) quota n (afterCall n (now (left .exit)) 0) × Told n (now (left .entry)) (now (left .exit)) ⌝ }
 {
-    let answer = keeping::keep(side, levels, plane, quota);
+    let answer = keeping::keep(height, width, levels, plane, quota);
     match answer {
         Counted::Count(k) => {
             *left = k;
@@ -133,15 +152,16 @@ pub extern "C" fn tetrolet_keep(
 // Cuts by a threshold; the number of tetrolet entries not zero that are left goes to `left`, which a refused call leaves as it was.
 #[no_mangle]
 pub extern "C" fn tetrolet_threshold(
-    side: usize,
+    height: usize,
+    width: usize,
     levels: usize,
     plane: &mut [i64],
     limit: u64,
     left: &mut usize,
 ) -> u32
-    ensures { λ n. ⌜ Cut side levels (now (plane .entry)) (now (plane .exit)) limit n (afterCall n (now (left .exit)) 0) × Told n (now (left .entry)) (now (left .exit)) ⌝ }
+    ensures { λ n. ⌜ Cut height width levels (now (plane .entry)) (now (plane .exit)) limit n (afterCall n (now (left .exit)) 0) × Told n (now (left .entry)) (now (left .exit)) ⌝ }
 {
-    let answer = keeping::threshold(side, levels, plane, limit);
+    let answer = keeping::threshold(height, width, levels, plane, limit);
     match answer {
         Counted::Count(k) => {
             *left = k;

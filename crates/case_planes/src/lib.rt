@@ -1,12 +1,10 @@
 // The planes of the cases that the programs `vectors` and `vectors_text` compare on: the coder's planes of pictures, and planes of any values. It is
 // proved to be safe and to end, and nothing more.
 use cases::inputs::Case;
-use cases::inputs::case_of;
 use cases::inputs::fill_coverings;
 use cases::inputs::fill_picture;
 use cases::inputs::fill_plane;
-use cases::inputs::mixed;
-use cases::inputs::side_of;
+use cases::safe::times;
 
 // The coder on the front parts of the slices. 1000 where they are too short, which the second implementation never gives.
 pub fn decompose(
@@ -31,7 +29,8 @@ pub fn decompose(
         return 1000;
     }
     refusals::code(coder::decompose(
-        k.side,
+        k.height,
+        k.width,
         k.levels,
         &samples[..n],
         &mut plane[..n],
@@ -58,7 +57,12 @@ pub fn fill(k: Case, plane: &mut [i64], coverings: &mut [u8]) {
     }
 }
 
-// Case c of a group of planes: every side, levels from none to five, every kind of plane.
+// Case c of a group of planes: every height with every width, levels from none to five, every kind of plane.
 pub fn case_at(c: usize) -> Case {
-    case_of(side_of(c % 7), c / 7 % 6, c / 42 % 14, mixed(c))
+    cases::inputs::case_at(c, 14)
+}
+
+// The same for groups that take each plane several times: every eleventh case, and so still every height, width, number of levels and kind.
+pub fn sparse_case_at(c: usize) -> Case {
+    case_at(times(c, 11))
 }

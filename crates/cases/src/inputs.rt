@@ -1,4 +1,4 @@
-// The generated inputs. A case is a number, and this module says which side, levels and filling it stands for, so that a difference can be found
+// The generated inputs. A case is a number, and this module says which height, width, levels and filling it stands for, so that a difference can be found
 // again from its number alone.
 use crate::safe::least;
 use crate::safe::over;
@@ -9,9 +9,10 @@ use crate::safe::put_value;
 use crate::safe::rest;
 use crate::safe::times;
 
-// A side, a number of levels, what the slices are filled with, and how long they are: `n` for samples and values, `b` for coverings.
+// A height, a width, a number of levels, what the slices are filled with, and how long they are: `n` for samples and values, `b` for coverings.
 pub struct Case {
-    pub side: usize,
+    pub height: usize,
+    pub width: usize,
     pub levels: usize,
     pub kind: usize,
     pub seed: usize,
@@ -34,52 +35,95 @@ pub fn mixed(c: usize) -> usize {
     upper(next(next(c)))
 }
 
-// Sides 4, 8, 16 and 32, and sides that no picture has.
+// A height or a width: five that pictures have, and three that none has.
 pub fn side_of(n: usize) -> usize {
     match n {
         0 => 4,
         1 => 8,
         2 => 16,
         3 => 32,
-        4 => 0,
-        5 => 12,
-        _ => 31,
+        4 => 128,
+        5 => 0,
+        6 => 12,
+        _ => 1024,
     }
 }
 
 // The number of blocks of all levels.
-fn count_blocks(side: usize, levels: usize) -> usize {
+fn count_blocks(height: usize, width: usize, levels: usize) -> usize {
     let mut sum: usize = 0;
-    let mut s = side / 4;
+    let mut h = height / 4;
+    let mut w = width / 4;
     let mut left = levels;
     while 0 < left {
-        sum = plus(sum, times(s, s));
-        s = s / 2;
+        sum = plus(sum, times(h, w));
+        h = h / 2;
+        w = w / 2;
         left -= 1;
     }
     sum
 }
 
-pub fn case_of(side: usize, levels: usize, kind: usize, seed: usize) -> Case {
+// Slices hold at most 1,024 samples or values and 512 coverings: too few for a larger picture, which is then refused.
+pub fn case_of(height: usize, width: usize, levels: usize, kind: usize, seed: usize) -> Case {
     Case {
-        side: side,
+        height: height,
+        width: width,
         levels: levels,
         kind: kind,
         seed: seed,
-        n: times(side, side),
-        b: count_blocks(side, levels),
+        n: least(1024, times(height, width)),
+        b: least(512, count_blocks(height, width, levels)),
     }
 }
 
-// The same case, with side 16 for most of those of side 32, on which the second implementation is slow.
-pub fn smaller(k: Case, random: usize) -> Case {
-    if k.side != 32 {
+// Case c of a group: every height with every width, levels from none to five, as many kinds as are told.
+pub fn case_at(c: usize, kinds: usize) -> Case {
+    case_of(
+        side_of(c % 8),
+        side_of(c / 8 % 8),
+        c / 64 % 6,
+        rest(c / 384, kinds),
+        mixed(c),
+    )
+}
+
+// Whether the second implementation is slow on a case: it has over 256 places and is not refused for its height or width.
+fn is_slow(k: Case) -> bool {
+    if k.n <= 256 {
+        return false;
+    }
+    if 128 < k.height {
+        return false;
+    }
+    k.width <= 128
+}
+
+// The same case, at most 16 by 8 or 8 by 16 in place of most of those on which the second implementation is slow.
+pub fn smaller(k: Case) -> Case {
+    if !is_slow(k) {
         return k;
     }
+    let random = k.seed / 8;
     if random % 8 == 0 {
         return k;
     }
-    case_of(16, k.levels, k.kind, k.seed)
+    if random % 2 == 0 {
+        return case_of(
+            least(16, k.height),
+            least(8, k.width),
+            k.levels,
+            k.kind,
+            k.seed,
+        );
+    }
+    case_of(
+        least(8, k.height),
+        least(16, k.width),
+        k.levels,
+        k.kind,
+        k.seed,
+    )
 }
 
 fn ramp(k: Case, row: usize, col: usize) -> usize {
@@ -99,8 +143,8 @@ fn stripes(row: usize, random: usize) -> usize {
 // A sample of a picture, at place i: a flat picture, a ramp, noise, checker boards of the two ends, faint noise with many equal costs, stripes with
 // noise, noise that is over 4,095 here and there, and a white picture with 4,096 at its last place.
 fn sample(k: Case, i: usize, random: usize) -> usize {
-    let row = rest(i, k.side);
-    let col = over(i, k.side);
+    let row = rest(i, k.height);
+    let col = over(i, k.height);
     let kind = k.kind;
     match kind {
         0 => least(4095, k.seed % 5000),
@@ -136,8 +180,8 @@ fn below(x: usize) -> i64 {
 
 // Whether a place is in the upper left quarter, where the low-pass band is, and the levels above the first.
 fn in_quarter(k: Case, i: usize) -> bool {
-    if times(2, rest(i, k.side)) < k.side {
-        return times(2, over(i, k.side)) < k.side;
+    if times(2, rest(i, k.height)) < k.height {
+        return times(2, over(i, k.height)) < k.width;
     }
     false
 }

@@ -1,13 +1,19 @@
 // What is counted of a group, how two answers are compared, and the line that tells a group.
+use crate::inputs::Case;
 use crate::safe::byte_at;
+use crate::safe::minus;
 use crate::safe::plus;
 use crate::safe::sample_at;
 use crate::safe::value_at;
 
+// The cases of a group, those that both accept, and those on which the two differ; and of the cases and of the accepted ones how many were strips: pictures
+// whose height is not their width.
 pub struct Tally {
     pub cases: usize,
     pub accepted: usize,
     pub differing: usize,
+    pub strips: usize,
+    pub accepted_strips: usize,
 }
 
 pub fn none() -> Tally {
@@ -15,6 +21,8 @@ pub fn none() -> Tally {
         cases: 0,
         accepted: 0,
         differing: 0,
+        strips: 0,
+        accepted_strips: 0,
     }
 }
 
@@ -38,6 +46,7 @@ pub fn judged(a: u32, b: u32, same: bool) -> Verdict {
     Verdict::Refused
 }
 
+// One case more.
 pub fn counted(t: Tally, v: Verdict) -> Tally {
     let cases = plus(t.cases, 1);
     match v {
@@ -45,17 +54,38 @@ pub fn counted(t: Tally, v: Verdict) -> Tally {
             cases: cases,
             accepted: plus(t.accepted, 1),
             differing: t.differing,
+            strips: t.strips,
+            accepted_strips: t.accepted_strips,
         },
         Verdict::Refused => Tally {
             cases: cases,
             accepted: t.accepted,
             differing: t.differing,
+            strips: t.strips,
+            accepted_strips: t.accepted_strips,
         },
         Verdict::Differs => Tally {
             cases: cases,
             accepted: t.accepted,
             differing: plus(t.differing, 1),
+            strips: t.strips,
+            accepted_strips: t.accepted_strips,
         },
+    }
+}
+
+// The same for a case with a height and a width.
+pub fn counted_case(t: Tally, k: Case, v: Verdict) -> Tally {
+    let n = counted(t, v);
+    if k.height == k.width {
+        return n;
+    }
+    Tally {
+        cases: n.cases,
+        accepted: n.accepted,
+        differing: n.differing,
+        strips: plus(t.strips, 1),
+        accepted_strips: plus(t.accepted_strips, minus(n.accepted, t.accepted)),
     }
 }
 
@@ -101,18 +131,34 @@ pub fn same_samples(a: &[u16], b: &[u16]) -> bool {
     true
 }
 
-// Prints the line of a group: its name, how many cases, how many of them both accept, and whether the two agree everywhere.
-pub fn tell(name: &[u8], t: Tally) {
-    io::write_all(1, name);
-    io::write_all(1, b" ");
-    io::print_decimal(1, t.cases as u64);
-    io::write_all(1, b" accepted ");
-    io::print_decimal(1, t.accepted as u64);
-    if t.differing == 0 {
+fn tell_count(before: &[u8], count: usize) {
+    io::write_all(1, before);
+    io::print_decimal(1, count as u64);
+}
+
+fn tell_end(differing: usize) {
+    if differing == 0 {
         io::write_all(1, b" ok\n");
         return;
     }
-    io::write_all(1, b" differs ");
-    io::print_decimal(1, t.differing as u64);
+    tell_count(b" differs ", differing);
     io::write_all(1, b"\n");
+}
+
+// Prints the line of a group without heights and widths: its name, how many cases, how many of them both accept, and whether the two agree everywhere.
+pub fn tell_list(name: &[u8], t: Tally) {
+    io::write_all(1, name);
+    tell_count(b" ", t.cases);
+    tell_count(b" accepted ", t.accepted);
+    tell_end(t.differing);
+}
+
+// The same for a group of pictures or planes, and how many of the cases and of the accepted ones were strips.
+pub fn tell(name: &[u8], t: Tally) {
+    io::write_all(1, name);
+    tell_count(b" ", t.cases);
+    tell_count(b" accepted ", t.accepted);
+    tell_count(b", strips ", t.strips);
+    tell_count(b" accepted ", t.accepted_strips);
+    tell_end(t.differing);
 }

@@ -18,24 +18,25 @@ use Rattle.quota.specs.Claims.{Demand}
 
 -- The checks of the three calls, all before the first: 1 2 3 4 of decomposing, 3 with restoring's slices too, then Keep's 7. What decomposing and Keep
 -- leave passes the others.
-abbrev pub chainRefusal : ℕ → ℕ → ℕ → List ℕ → List ℤ → List ℕ → List ℤ → List ℕ → List ℤ → ℕ
-chainRefusal side levels quota samples plane coverings numerators restored scratch =
-    sizeRefusal side levels
-    (refuseIf (not ((isPlane side side samples && (isPlane side side plane && (isCoverings levels side side coverings && isPlane side side scratch))) && (isPlane side side numerators && isPlane side side restored))) 3
+abbrev pub chainRefusal : ℕ → ℕ → ℕ → ℕ → List ℕ → List ℤ → List ℕ → List ℤ → List ℕ → List ℤ → ℕ
+chainRefusal height width levels quota samples plane coverings numerators restored scratch =
+    sizeRefusal height width levels
+    (refuseIf (not ((isPlane height width samples && (isPlane height width plane && (isCoverings levels height width coverings && isPlane height width scratch))) && (isPlane height width numerators && isPlane height width restored))) 3
     (refuseIf (not (every isSample samples)) 4
-    (refuseIf (ltb (quotaLimit side levels) quota) 7
+    (refuseIf (ltb (quotaLimit height width levels) quota) 7
     0)))
 
 -- The number answered is n, and `left` the count that comes with it, 0 where the chain is refused. A name with ′ is what the slice holds after the chain.
-pub record Chained (side levels quota : ℕ) (samples : List ℕ) (plane plane′ : List ℤ) (coverings coverings′ : List ℕ) (numerators numerators′ : List ℤ) (restored restored′ : List ℕ) (scratch scratch′ : List ℤ) (n left : ℕ) : Type 0 where
-  pub number : n ≡ chainRefusal side levels quota samples plane coverings numerators restored scratch
+pub record Chained (height width levels quota : ℕ) (samples : List ℕ) (plane plane′ : List ℤ) (coverings coverings′ : List ℕ) (numerators numerators′ : List ℤ) (restored restored′ : List ℕ) (scratch scratch′ : List ℤ) (n left : ℕ) : Type 0 where
+  pub number : n ≡ chainRefusal height width levels quota samples plane coverings numerators restored scratch
   -- "decomposing, then Keep on the plane as left, then restoring what Keep left with the coverings that decomposing gave, the picture's sides and R the
   -- same throughout"
-  pub planes : plane′ ≡ afterCall n (keptOf levels side side quota (planeOf levels side side samples)) plane
-  pub covers : coverings′ ≡ afterCall n (coversOf levels side side samples) coverings
-  pub values : numerators′ ≡ afterCall n (numeratorsOf levels side side coverings′ plane′) numerators
-  pub image : restored′ ≡ afterCall n (samplesOf levels side side coverings′ plane′) restored
-  pub zeros : scratch′ ≡ afterCall n (replicate (side * side) (pos 0)) scratch
-  pub counts : left ≡ afterCall n (entriesOf levels side side plane′) 0
-  -- the third demand of these slices; the numerators of the kept plane are those that restoring gave, by `values`
-  pub demand : n ≡ 0 → Demand levels side side quota samples coverings′ (planeOf levels side side samples) plane′
+  pub planes : plane′ ≡ afterCall n (keptOf levels height width quota (planeOf levels height width samples)) plane
+  pub covers : coverings′ ≡ afterCall n (coversOf levels height width samples) coverings
+  pub values : numerators′ ≡ afterCall n (numeratorsOf levels height width coverings′ plane′) numerators
+  pub image : restored′ ≡ afterCall n (samplesOf levels height width coverings′ plane′) restored
+  pub zeros : scratch′ ≡ afterCall n (replicate (width * height) (pos 0)) scratch
+  pub counts : left ≡ afterCall n (entriesOf levels height width plane′) 0
+  -- the third demand of these slices; the numerators of the kept plane are those that restoring gave, by `values`. Document 02, wish 2: "the claim about
+  -- rivals is wanted for strips too"
+  pub demand : n ≡ 0 → Demand levels height width quota samples coverings′ (planeOf levels height width samples) plane′

@@ -1,5 +1,5 @@
 // The chain of the third demand: decompose, then keep on the plane as left, then restore what keep left, with the coverings that decomposing gave and the
-// side and the levels the same throughout. What it answers and leaves, and the third demand of its own slices, is in specs/Chain.antt.
+// height, the width and the levels the same throughout. What it answers and leaves, and the third demand of its own slices, is in specs/Chain.antt.
 ghost use mathlib.Core.Path.{_≡_};
 ghost use Rattle.refusals.specs.Refusal.{answerOf, countedOf, countOf};
 ghost use Rattle.chain.specs.Chain.{chainRefusal, Chained};
@@ -9,7 +9,8 @@ use refusals::Refusal;
 
 // The checks of the chain, all before its first call: those of decompose, with restore's slices too, then the quota.
 fn chain_checks(
-    side: usize,
+    height: usize,
+    width: usize,
     levels: usize,
     quota: u64,
     samples: &[u16],
@@ -19,14 +20,14 @@ fn chain_checks(
     restored: &[u16],
     scratch: &[i64],
 ) -> Answer
-    ensures { λ r. ⌜ answerOf r ≡ chainRefusal side levels quota (now (samples .entry)) (now (plane .entry)) (now (coverings .entry)) (now (numerators .entry)) (now (restored .entry)) (now (scratch .entry)) ⌝ }
+    ensures { λ r. ⌜ answerOf r ≡ chainRefusal height width levels quota (now (samples .entry)) (now (plane .entry)) (now (coverings .entry)) (now (numerators .entry)) (now (restored .entry)) (now (scratch .entry)) ⌝ }
 {
-    let sized = places::checks::size_checks(side, levels);
+    let sized = places::checks::size_checks(height, width, levels);
     if let Answer::Refused(r) = sized {
         return Answer::Refused(r);
     }
-    let area = side * side;
-    let blocks = places::checks::count_blocks(levels, side);
+    let area = width * height;
+    let blocks = places::checks::count_blocks(levels, height, width);
     let framed = ((samples.len() == area)
         & ((plane.len() == area) & ((coverings.len() == blocks) & (scratch.len() == area))))
         & ((numerators.len() == area) & (restored.len() == area));
@@ -36,7 +37,7 @@ fn chain_checks(
     if !coder::all_samples(samples) {
         return Answer::Refused(Refusal::Sample);
     }
-    if sifting::ranks::most_entries(side as u32, levels as u32) < quota {
+    if sifting::ranks::most_entries(height as u32, width as u32, levels as u32) < quota {
         return Answer::Refused(Refusal::Quota);
     }
     Answer::Done
@@ -45,7 +46,8 @@ fn chain_checks(
 // Decomposes, keeps and restores; gives the number of tetrolet entries left.
 // Two wrong answers that the contract rules out: the numerators of the plane before keep; a plane that is decomposed where the quota is then refused.
 pub fn decompose_keep_restore(
-    side: usize,
+    height: usize,
+    width: usize,
     levels: usize,
     quota: u64,
     samples: &[u16],
@@ -55,10 +57,11 @@ pub fn decompose_keep_restore(
     restored: &mut [u16],
     scratch: &mut [i64],
 ) -> Counted
-    ensures { λ r. ⌜ Chained side levels quota (now (samples .entry)) (now (plane .entry)) (now (plane .exit)) (now (coverings .entry)) (now (coverings .exit)) (now (numerators .entry)) (now (numerators .exit)) (now (restored .entry)) (now (restored .exit)) (now (scratch .entry)) (now (scratch .exit)) (countedOf r) (countOf r) ⌝ }
+    ensures { λ r. ⌜ Chained height width levels quota (now (samples .entry)) (now (plane .entry)) (now (plane .exit)) (now (coverings .entry)) (now (coverings .exit)) (now (numerators .entry)) (now (numerators .exit)) (now (restored .entry)) (now (restored .exit)) (now (scratch .entry)) (now (scratch .exit)) (countedOf r) (countOf r) ⌝ }
 {
     let found = chain_checks(
-        side,
+        height,
+        width,
         levels,
         quota,
         samples,
@@ -72,10 +75,11 @@ pub fn decompose_keep_restore(
         return Counted::Refused(r);
     }
     // None of the three is refused after these checks.
-    coder::decompose(side, levels, samples, plane, coverings, scratch);
-    let kept = keeping::keep(side, levels, plane, quota);
+    coder::decompose(height, width, levels, samples, plane, coverings, scratch);
+    let kept = keeping::keep(height, width, levels, plane, quota);
     coder::restore(
-        side,
+        height,
+        width,
         levels,
         plane,
         coverings,

@@ -18,33 +18,33 @@ use Rattle.places.specs.Sizes.{sizeRefusal}
 abbrev pub isSample : ℕ → Bool
 isSample s = leb s 4095
 
--- Document 01: "decompose 1 2 3 4".
-abbrev pub decomposeRefusal : ℕ → ℕ → List ℕ → List ℤ → List ℕ → List ℤ → ℕ
-decomposeRefusal side levels samples plane coverings scratch =
-    sizeRefusal side levels
-    (refuseIf (not (isPlane side side samples && (isPlane side side plane && (isCoverings levels side side coverings && isPlane side side scratch)))) 3
+-- Document 01: "decompose 1 2 3 4"; document 02, wish 2: "All formulas with N^2 use height times width. Level r has height/2^(r+1) times width/2^(r+1) blocks."
+abbrev pub decomposeRefusal : ℕ → ℕ → ℕ → List ℕ → List ℤ → List ℕ → List ℤ → ℕ
+decomposeRefusal height width levels samples plane coverings scratch =
+    sizeRefusal height width levels
+    (refuseIf (not (isPlane height width samples && (isPlane height width plane && (isCoverings levels height width coverings && isPlane height width scratch)))) 3
     (refuseIf (not (every isSample samples)) 4
     0))
 
 -- n is the number that the call is answered with, 0 where it is accepted; a name with ′ is what the slice holds after the call. "A scratch slice as long as the plane holds zeros after an accepted decomposition".
-pub record Decomposed (side levels : ℕ) (samples : List ℕ) (plane plane′ : List ℤ) (coverings coverings′ : List ℕ) (scratch scratch′ : List ℤ) (n : ℕ) : Type 0 where
-  pub number : n ≡ decomposeRefusal side levels samples plane coverings scratch
-  pub planes : plane′ ≡ afterCall n (planeOf levels side side samples) plane
-  pub covers : coverings′ ≡ afterCall n (coversOf levels side side samples) coverings
-  pub zeros : scratch′ ≡ afterCall n (replicate (side * side) (pos 0)) scratch
+pub record Decomposed (height width levels : ℕ) (samples : List ℕ) (plane plane′ : List ℤ) (coverings coverings′ : List ℕ) (scratch scratch′ : List ℤ) (n : ℕ) : Type 0 where
+  pub number : n ≡ decomposeRefusal height width levels samples plane coverings scratch
+  pub planes : plane′ ≡ afterCall n (planeOf levels height width samples) plane
+  pub covers : coverings′ ≡ afterCall n (coversOf levels height width samples) coverings
+  pub zeros : scratch′ ≡ afterCall n (replicate (width * height) (pos 0)) scratch
 
 -- Document 01: "restore 1 2 3 5 6".
-abbrev pub restoreRefusal : ℕ → ℕ → List ℤ → List ℕ → List ℤ → List ℕ → List ℤ → ℕ
-restoreRefusal side levels plane coverings numerators samples scratch =
-    sizeRefusal side levels
-    (refuseIf (not (isPlane side side plane && (isCoverings levels side side coverings && (isPlane side side numerators && (isPlane side side samples && isPlane side side scratch))))) 3
+abbrev pub restoreRefusal : ℕ → ℕ → ℕ → List ℤ → List ℕ → List ℤ → List ℕ → List ℤ → ℕ
+restoreRefusal height width levels plane coverings numerators samples scratch =
+    sizeRefusal height width levels
+    (refuseIf (not (isPlane height width plane && (isCoverings levels height width coverings && (isPlane height width numerators && (isPlane height width samples && isPlane height width scratch))))) 3
     (refuseIf (not (every isNumber coverings)) 5
-    (refuseIf (not (inRange levels side side (imageOf side plane))) 6
+    (refuseIf (not (inRange levels height width (imageOf height plane))) 6
     0)))
 
 -- "Numerators are given beside samples."
-pub record Restored (side levels : ℕ) (plane : List ℤ) (coverings : List ℕ) (numerators numerators′ : List ℤ) (samples samples′ : List ℕ) (scratch scratch′ : List ℤ) (n : ℕ) : Type 0 where
-  pub number : n ≡ restoreRefusal side levels plane coverings numerators samples scratch
-  pub values : numerators′ ≡ afterCall n (numeratorsOf levels side side coverings plane) numerators
-  pub image : samples′ ≡ afterCall n (samplesOf levels side side coverings plane) samples
-  pub zeros : scratch′ ≡ afterCall n (replicate (side * side) (pos 0)) scratch
+pub record Restored (height width levels : ℕ) (plane : List ℤ) (coverings : List ℕ) (numerators numerators′ : List ℤ) (samples samples′ : List ℕ) (scratch scratch′ : List ℤ) (n : ℕ) : Type 0 where
+  pub number : n ≡ restoreRefusal height width levels plane coverings numerators samples scratch
+  pub values : numerators′ ≡ afterCall n (numeratorsOf levels height width coverings plane) numerators
+  pub image : samples′ ≡ afterCall n (samplesOf levels height width coverings plane) samples
+  pub zeros : scratch′ ≡ afterCall n (replicate (width * height) (pos 0)) scratch

@@ -10,20 +10,22 @@ use cases::safe::rest;
 use cases::safe::times;
 use plain_text::writing::put_text;
 
-fn ask_of(side: usize) -> Ask {
+fn ask_of(height: usize, width: usize) -> Ask {
     Ask {
-        side: side,
+        height: height,
+        width: width,
         levels: 1,
         quota: 5,
-        rows: side,
+        rows: height,
+        columns: width,
         last: 4095,
     }
 }
 
 // The length of the whole input.
-fn length_of(side: usize) -> usize {
+fn length_of(k: Ask) -> usize {
     let mut text = [0u8; 1024];
-    crate::texts::put_input(&mut text, ask_of(side))
+    crate::texts::put_input(&mut text, k)
 }
 
 // A byte for a way: from 1 on such as texts have or might have, then any.
@@ -69,9 +71,9 @@ fn put_damaged(out: &mut [u8], text: &[u8], i: usize, way: usize) -> usize {
     put_text(out, b, &text[next..])
 }
 
-fn damaged(side: usize, i: usize, way: usize) -> usize {
+fn damaged(k: Ask, i: usize, way: usize) -> usize {
     let mut text = [0u8; 1024];
-    let whole = crate::texts::put_input(&mut text, ask_of(side));
+    let whole = crate::texts::put_input(&mut text, k);
     if 1024 < whole {
         return DIFFERS;
     }
@@ -83,19 +85,28 @@ fn damaged(side: usize, i: usize, way: usize) -> usize {
     answer(&out[..end])
 }
 
-// Every place, with so many ways.
-fn damage_group(side: usize, ways: usize) -> Seen {
-    let end = times(length_of(side), ways);
-    let mut s = crate::seen::nothing();
+// Every place with so many ways, of which one in so many steps is tried; counted with what was seen before.
+fn damage_group(before: Seen, k: Ask, ways: usize, step: usize) -> Seen {
+    let end = over(times(length_of(k), ways), step);
+    let mut s = before;
     let mut c: usize = 0;
     while c < end {
-        s = crate::seen::counted(s, damaged(side, over(c, ways), rest(c, ways)));
+        let n = times(c, step);
+        s = crate::seen::counted(s, k, damaged(k, over(n, ways), rest(n, ways)));
         c += 1;
     }
     s
 }
 
+// A square and two strips. A step has no factor in common with the ways, so that every place is met, and every way at one place in so many.
 pub fn tell_all() {
-    crate::seen::tell(b"side 4, damaged:", damage_group(4, 512));
-    crate::seen::tell(b"side 8, damaged:", damage_group(8, 14));
+    let none = crate::seen::nothing();
+    let small = damage_group(none, ask_of(4, 4), 512, 5);
+    let wide = damage_group(small, ask_of(4, 8), 512, 5);
+    let tall = damage_group(wide, ask_of(8, 4), 512, 5);
+    crate::seen::tell(b"4 by 4, 4 by 8 and 8 by 4, damaged:", tall);
+    let square = damage_group(none, ask_of(8, 8), 14, 5);
+    let wider = damage_group(square, ask_of(8, 16), 14, 5);
+    let taller = damage_group(wider, ask_of(16, 8), 14, 5);
+    crate::seen::tell(b"8 by 8, 8 by 16 and 16 by 8, damaged:", taller);
 }

@@ -1,4 +1,4 @@
-// Groups of generated inputs: every mixture of sides, levels, quotas, samples and ends; and inputs of about the length that is too long.
+// Groups of generated inputs: mixtures of heights, widths, levels, quotas, samples and ends; and inputs of about the length that is too long.
 use crate::answers::DIFFERS;
 use crate::answers::answer;
 use crate::seen::Seen;
@@ -6,8 +6,9 @@ use crate::texts::Ask;
 use cases::safe::minus;
 use cases::safe::plus;
 use cases::safe::put_byte;
+use cases::safe::times;
 
-// Sides of pictures, and sides that are 1, 12, or both at once.
+// A height or a width: of pictures, and such as are 1, 12, or both at once.
 fn side_of(n: usize) -> usize {
     match n {
         0 => 4,
@@ -30,7 +31,7 @@ fn levels_of(n: usize) -> usize {
     }
 }
 
-// A picture of side 4 has 12 tetrolet entries; the last number is too large for a text.
+// A picture of 4 by 4 has 12 tetrolet entries; the last number is too large for a text.
 fn quota_of(n: usize) -> usize {
     match n {
         0 => 0,
@@ -55,13 +56,16 @@ fn rows_of(side: usize) -> usize {
 }
 
 fn ask_of(c: usize) -> Ask {
-    let side = side_of(c % 8);
+    let height = side_of(c % 8);
+    let width = side_of(c / 8 % 8);
     Ask {
-        side: side,
-        levels: levels_of(c / 8 % 4),
-        quota: quota_of(c / 32 % 5),
-        rows: rows_of(side),
-        last: sample_of(c / 160 % 4),
+        height: height,
+        width: width,
+        levels: levels_of(c / 64 % 4),
+        quota: quota_of(c / 256 % 5),
+        rows: rows_of(height),
+        columns: rows_of(width),
+        last: sample_of(c / 1280 % 4),
     }
 }
 
@@ -77,39 +81,44 @@ fn end_of(text: &mut [u8], end: usize, way: usize) -> usize {
     }
 }
 
-fn mixed(c: usize) -> usize {
+fn mixed(k: Ask, way: usize) -> usize {
     let mut text = [0u8; 32768];
-    let whole = crate::texts::put_input(&mut text, ask_of(c));
-    let end = end_of(&mut text, whole, c / 640);
+    let whole = crate::texts::put_input(&mut text, k);
+    let end = end_of(&mut text, whole, way);
     if 32768 < end {
         return DIFFERS;
     }
     answer(&text[..end])
 }
 
+// Half of the 15,360 mixtures: seven steps at a time, and so every height, width, number of levels, quota, sample and end.
 fn mixture_group() -> Seen {
     let mut s = crate::seen::nothing();
     let mut c: usize = 0;
-    while c < 1920 {
-        s = crate::seen::counted(s, mixed(c));
+    while c < 7680 {
+        let n = times(c, 7);
+        let k = ask_of(n);
+        s = crate::seen::counted(s, k, mixed(k, n / 5120 % 3));
         c += 1;
     }
     s
 }
 
-// The same headers before spaces, in inputs of 65,535 to 65,538 bytes.
-fn long_input(c: usize) -> usize {
+// A header before spaces, in inputs of 65,535 to 65,538 bytes.
+fn long_input(k: Ask, c: usize) -> usize {
     let mut text = [b' '; 65538];
-    let end = 65535 + c / 160 % 4;
-    crate::texts::put_header(&mut text, ask_of(c % 160));
+    let end = 65535 + c % 4;
+    crate::texts::put_header(&mut text, k);
     answer(&text[..end])
 }
 
+// A quarter of the headers of the mixtures, in the same steps.
 fn length_group() -> Seen {
     let mut s = crate::seen::nothing();
     let mut c: usize = 0;
-    while c < 640 {
-        s = crate::seen::counted(s, long_input(c));
+    while c < 1280 {
+        let k = ask_of(times(c / 4, 7));
+        s = crate::seen::counted(s, k, long_input(k, c));
         c += 1;
     }
     s

@@ -1,10 +1,13 @@
-// What was seen of a group: how many inputs, and how many of them got which number.
+// What was seen of a group: how many inputs, how many of them were strips, whose height is not their width, and how many got which number.
 use crate::answers::DIFFERS;
+use crate::texts::Ask;
 use cases::safe::plus;
 
 pub struct Seen {
     pub inputs: usize,
+    pub strips: usize,
     pub sheets: usize,
+    pub strip_sheets: usize,
     pub r1: usize,
     pub r2: usize,
     pub r4: usize,
@@ -17,7 +20,9 @@ pub struct Seen {
 pub fn nothing() -> Seen {
     Seen {
         inputs: 0,
+        strips: 0,
         sheets: 0,
+        strip_sheets: 0,
         r1: 0,
         r2: 0,
         r4: 0,
@@ -37,10 +42,30 @@ fn more(count: usize, number: usize, this: usize) -> usize {
     }
 }
 
-pub fn counted(s: Seen, number: usize) -> Seen {
+// The same for strips.
+fn more_strips(count: usize, k: Ask) -> usize {
+    if k.height == k.width {
+        count
+    } else {
+        plus(count, 1)
+    }
+}
+
+fn more_strip_sheets(count: usize, k: Ask, number: usize) -> usize {
+    if number == 0 {
+        more_strips(count, k)
+    } else {
+        count
+    }
+}
+
+// An input and the number it got.
+pub fn counted(s: Seen, k: Ask, number: usize) -> Seen {
     Seen {
         inputs: plus(s.inputs, 1),
+        strips: more_strips(s.strips, k),
         sheets: more(s.sheets, number, 0),
+        strip_sheets: more_strip_sheets(s.strip_sheets, k, number),
         r1: more(s.r1, number, 1),
         r2: more(s.r2, number, 2),
         r4: more(s.r4, number, 4),
@@ -60,7 +85,9 @@ fn tell_count(before: &[u8], count: usize) {
 pub fn tell(name: &[u8], s: Seen) {
     io::write_all(1, name);
     tell_count(b" inputs ", s.inputs);
+    tell_count(b", strips ", s.strips);
     tell_count(b", sheets ", s.sheets);
+    tell_count(b", of strips ", s.strip_sheets);
     tell_count(b", 1: ", s.r1);
     tell_count(b", 2: ", s.r2);
     tell_count(b", 4: ", s.r4);

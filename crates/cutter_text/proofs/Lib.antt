@@ -1,4 +1,5 @@
 pub mod Heads
+pub mod Laws
 pub mod Stores
 pub mod Turned
 pub mod Wholes

@@ -30,44 +30,44 @@ fits : (n : ℕ) (rs : List (List ℤ)) → FitsCount (exactly n) (length rs) �
 unfolding FitsCount
 fits n rs h = h
 
-module _ (n : ℕ) (t : List ℕ) where
-  pub no-names : skip M t ≡ bad → parse (samplesForm n) t ≡ none
+module _ (h w : ℕ) (t : List ℕ) where
+  pub no-names : skip M t ≡ bad → parse (samplesForm h w) t ≡ none
   unfolding sections whole
   no-names e = rw e
 
   module _ (r : List ℕ) (e : skip M t ≡ got tt r) where
-    parse-is : (x : Parsed (List (List ℤ))) → times n (plains n) r ≡ x → parse (samplesForm n) t ≡ whole (andThen x (λ a b. got (a ∷ []) b))
+    parse-is : (x : Parsed (List (List ℤ))) → times h (plains w) r ≡ x → parse (samplesForm h w) t ≡ whole (andThen x (λ a b. got (a ∷ []) b))
     unfolding sections rows
-    parse-is x h = rw (e, h)
+    parse-is x g = rw (e, g)
 
     module _ (out : List ℕ) where
-      rows-bad : (x : Parsed (List (List ℤ))) → times n (plains n) r ≡ x → bad ≡ rowsOf n 0 out x → parse (samplesForm n) t ≡ none
+      rows-bad : (x : Parsed (List (List ℤ))) → times h (plains w) r ≡ x → bad ≡ rowsOf h 0 out x → parse (samplesForm h w) t ≡ none
       unfolding whole
-      rows-bad bad h k = parse-is bad h
-      rows-bad (got rs b) h k = absurd (let z : _≡_ {A = ℕ} 0 1 = cc in omega arith)
+      rows-bad bad g k = parse-is bad g
+      rows-bad (got rs b) g k = absurd (let z : _≡_ {A = ℕ} 0 1 = cc in omega arith)
 
-      pub no-rows : bad ≡ rowsOf n 0 out (times n (plains n) r) → parse (samplesForm n) t ≡ none
-      no-rows k = rows-bad (times n (plains n) r) refl k
+      pub no-rows : bad ≡ rowsOf h 0 out (times h (plains w) r) → parse (samplesForm h w) t ≡ none
+      no-rows k = rows-bad (times h (plains w) r) refl k
 
-      rows-left : (out′ b : List ℕ) (x : Parsed (List (List ℤ))) → times n (plains n) r ≡ x → got out′ b ≡ rowsOf n 0 out x → 0 < length b → parse (samplesForm n) t ≡ none
-      rows-left out′ b bad h k l = absurd (let z : _≡_ {A = ℕ} 0 1 = cc in omega arith)
-      rows-left out′ b (got rs c) h k l = let q : b ≡ c = cc in parse-is (got rs c) h ∙ whole-left (rs ∷ []) c (omega (arith, ap length q))
+      rows-left : (out′ b : List ℕ) (x : Parsed (List (List ℤ))) → times h (plains w) r ≡ x → got out′ b ≡ rowsOf h 0 out x → 0 < length b → parse (samplesForm h w) t ≡ none
+      rows-left out′ b bad g k l = absurd (let z : _≡_ {A = ℕ} 0 1 = cc in omega arith)
+      rows-left out′ b (got rs c) g k l = let q : b ≡ c = cc in parse-is (got rs c) g ∙ whole-left (rs ∷ []) c (omega (arith, ap length q))
 
-      pub goes-on : (out′ b : List ℕ) → got out′ b ≡ rowsOf n 0 out (times n (plains n) r) → 0 < length b → parse (samplesForm n) t ≡ none
-      goes-on out′ b k l = rows-left out′ b (times n (plains n) r) refl k l
+      pub goes-on : (out′ b : List ℕ) → got out′ b ≡ rowsOf h 0 out (times h (plains w) r) → 0 < length b → parse (samplesForm h w) t ≡ none
+      goes-on out′ b k l = rows-left out′ b (times h (plains w) r) refl k l
 
-      rows-all : (out′ b : List ℕ) (x : Parsed (List (List ℤ))) → times n (plains n) r ≡ x → got out′ b ≡ rowsOf n 0 out x → length b ≡ 0 → length out ≡ n * n → Stored n (parse (samplesForm n) t) out′
+      rows-all : (out′ b : List ℕ) (x : Parsed (List (List ℤ))) → times h (plains w) r ≡ x → got out′ b ≡ rowsOf h 0 out x → length b ≡ 0 → length out ≡ w * h → Stored h w (parse (samplesForm h w) t) out′
       unfolding rows
-      rows-all out′ b bad h k l f = absurd (let z : _≡_ {A = ℕ} 0 1 = cc in omega arith)
-      rows-all out′ b (got rs c) h k l f =
+      rows-all out′ b bad g k l f = absurd (let z : _≡_ {A = ℕ} 0 1 = cc in omega arith)
+      rows-all out′ b (got rs c) g k l f =
           let q : b ≡ c = cc in
-          let o : out′ ≡ rowsIn n 0 rs out = cc in
-          let s = rows-sound (exactly n) (plains n) r rs c h in
+          let o : out′ ≡ rowsIn h 0 rs out = cc in
+          let s = rows-sound (exactly h) (plains w) r rs c g in
           record {
             lines = rs ∷ [];
-            read = parse-is (got rs c) h ∙ whole-all (rs ∷ []) c (omega (arith, ap length q));
-            samples = o ∙ turned n rs out (fits n rs (s .0)) (s .1 .fits) f;
+            read = parse-is (got rs c) g ∙ whole-all (rs ∷ []) c (omega (arith, ap length q));
+            samples = o ∙ turned h w rs out (fits h rs (s .0)) (s .1 .fits) f;
           }
 
-      pub stored : (out′ b : List ℕ) → got out′ b ≡ rowsOf n 0 out (times n (plains n) r) → length b ≡ 0 → length out ≡ n * n → Stored n (parse (samplesForm n) t) out′
-      stored out′ b k l f = rows-all out′ b (times n (plains n) r) refl k l f
+      pub stored : (out′ b : List ℕ) → got out′ b ≡ rowsOf h 0 out (times h (plains w) r) → length b ≡ 0 → length out ≡ w * h → Stored h w (parse (samplesForm h w) t) out′
+      stored out′ b k l f = rows-all out′ b (times h (plains w) r) refl k l f

@@ -17,7 +17,7 @@ headerOf (Of h) = 0
 headerOf (Refused r) = numberOf r
 
 pub record Headed (t : List ℕ) (h : Heading) : Type 0 where
-  pub read : sections headerForm t ≡ got (((pos (h .side) ∷ pos (h .levels) ∷ pos (h .quota) ∷ []) ∷ []) ∷ []) (drop (h .next) t)
+  pub read : sections headerForm t ≡ got (((pos (h .height) ∷ pos (h .width) ∷ pos (h .levels) ∷ pos (h .quota) ∷ []) ∷ []) ∷ []) (drop (h .next) t)
   pub within : h .next ≤ length t
 
 -- The line rules alone: "9 on the header".

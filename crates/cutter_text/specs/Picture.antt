@@ -6,9 +6,9 @@ use lib.ListN.{getD}
 use Rattle.integers.specs.Lists.{tabulate}
 use Rattle.text.specs.Lines.{cellAt}
 
--- Document 01: "N rows of N values left to right"; samples are "stored down columns", so the one of row y, column x is at x * n + y.
+-- Document 01: rows of "values left to right"; samples are "stored down columns", so in a picture of height h the one of row y, column x is at x * h + y.
 abbrev pub sampleAt : ℕ → List (List ℤ) → ℕ → ℕ
-sampleAt n rows k = cellAt (getD rows (k % n) []) (k / n)
+sampleAt h rows k = cellAt (getD rows (k % h) []) (k / h)
 
-unfoldable pub pictureIn : ℕ → List (List ℤ) → List ℕ
-pictureIn n rows = tabulate (n * n) (sampleAt n rows)
+unfoldable pub pictureIn : ℕ → ℕ → List (List ℤ) → List ℕ
+pictureIn h w rows = tabulate (w * h) (sampleAt h rows)

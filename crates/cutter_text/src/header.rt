@@ -2,11 +2,12 @@
 ghost use mathlib.Core.Path.{_≡_};
 ghost use Rattle.cutter_text.specs.Header.{HeaderIn, headerOf};
 use refusals::Refusal;
+use text::lines::LineOfFour;
 use text::names::Skip;
-use text::number::Size;
 
 pub struct Heading {
-    pub side: usize,
+    pub height: usize,
+    pub width: usize,
     pub levels: usize,
     pub quota: u64,
     // The place past the header.
@@ -32,22 +33,17 @@ pub fn code(h: Header) -> u32
 pub fn read_header(s: &[u8]) -> Header
     ensures { λ r. ⌜ HeaderIn (now (s .entry)) r ⌝ }
 {
-    let Skip::To(p) = text::names::skip_names(s, 0, b"side levels quota\n") else {
+    let Skip::To(p) = text::names::skip_names(s, 0, b"height width levels quota\n") else {
         return Header::Refused(Refusal::Text);
     };
-    let Size::Of(side, q) = text::number::read_size(s, p, 32) else {
-        return Header::Refused(Refusal::Text);
-    };
-    let Size::Of(levels, t) = text::number::read_size(s, q, 32) else {
-        return Header::Refused(Refusal::Text);
-    };
-    let Size::Of(quota, next) = text::number::read_size(s, t, 10) else {
+    let LineOfFour::Of(line) = text::lines::read_four(s, p) else {
         return Header::Refused(Refusal::Text);
     };
     Header::Of(Heading {
-        side: side as usize,
-        levels: levels as usize,
-        quota: quota as u64,
-        next,
+        height: line.first as usize,
+        width: line.second as usize,
+        levels: line.third as usize,
+        quota: line.fourth as u64,
+        next: line.next,
     })
 }

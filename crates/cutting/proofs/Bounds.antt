@@ -1,8 +1,8 @@
--- A sheet of side 32 or less has at most 65,536 bytes. Assumes nothing.
+-- A sheet of at most 32 by 32 has at most 65,536 bytes. Assumes nothing.
 use mathlib.Core.Path.{_≡_, ap}
 use mathlib.Core.Bool.{Bool, true, false, cond}
 use mathlib.Core.List.{List, [], _∷_}
-use Prim.Native.Nat.{ℕ, zero, suc, _+_, _*_, _≤_}
+use Prim.Native.Nat.{ℕ, zero, suc, _+_, _*_, _/_, _≤_}
 use native.Mathlib.Omega.{arith}
 use native.Mathlib.Nat.{mul-le-mul}
 use lib.Dec.{T, leb, leb→le}
@@ -11,7 +11,7 @@ use lib.ListN.{length, length-append}
 use Rattle.integers.proofs.Tests.{upTo, upTo-at}
 use Rattle.pyramid.specs.Plane.{Image, allBlocks}
 use Rattle.pyramid.specs.Places.{Place, BlockPlace, at, planePlaces, blockPlaces}
-use Rattle.pyramid.specs.Sides.{isSide, isDepth}
+use Rattle.pyramid.specs.Sides.{isSides, isDepth}
 use Rattle.pyramid.specs.Slices.{imageOf}
 use Rattle.places.proofs.Sides.{Passed, passed}
 use Rattle.text.specs.Text.{rowsText, rowText}
@@ -55,31 +55,37 @@ unfolding rowsText entryRows
 entry-lines P [] = omega arith
 entry-lines P (p ∷ ps) = omega (arith, entry-line p (at P p) (entryRows P ps) (56 * length ps) (entry-lines P ps))
 
--- the blocks of every side up to 32
-pub few-blocks : (n R : ℕ) → n ≤ 32 → R ≤ 8 → allBlocks R n n ≤ 85
-few-blocks n R l k =
-    leb→le (allBlocks R n n) 85
-    (upTo-at 9 (λ r. leb (allBlocks r n n) 85) (upTo-at 33 (λ m. upTo 9 (λ r. leb (allBlocks r m m) 85)) tested n (omega arith)) R (omega arith))
+-- a larger picture has no fewer blocks
+more-blocks : (R h w m n : ℕ) → h ≤ m → w ≤ n → allBlocks R h w ≤ allBlocks R m n
+more-blocks zero h w m n a b = omega arith
+more-blocks (suc R) h w m n a b =
+    let x : h / 4 ≤ m / 4 = omega arith in
+    let y : w / 4 ≤ n / 4 = omega arith in
+    omega (arith, mul-le-mul y x, more-blocks R (h / 2) (w / 2) (m / 2) (n / 2) (omega arith) (omega arith))
+
+pub few-blocks : (h w R : ℕ) → h ≤ 32 → w ≤ 32 → R ≤ 8 → allBlocks R h w ≤ 85
+few-blocks h w R a b k = omega (arith, more-blocks R h w 32 32 a b, leb→le (allBlocks R 32 32) 85 (upTo-at 9 (λ r. leb (allBlocks r 32 32) 85) tested R (omega arith)))
   where
-    tested : T (upTo 33 (λ m. upTo 9 (λ r. leb (allBlocks r m m) 85)))
+    tested : T (upTo 9 (λ r. leb (allBlocks r 32 32) 85))
     tested = tt
 
-entry-count : (n R : ℕ) → Passed n R → length (planePlaces R n n) ≡ n * n
-entry-count n zero q = absurd (omega (arith, q .some-level))
-entry-count n (suc R) q = count R n n (q .fits)
+entry-count : (h w R : ℕ) → Passed h w R → length (planePlaces R h w) ≡ w * h
+entry-count h w zero q = absurd (omega (arith, q .some-level))
+entry-count h w (suc R) q = count R h w (q .fits)
 
-pub sheet-bound : (n R : ℕ) (P : List ℤ) (cs : List ℕ) → isSide n ≡ true → isDepth R n n ≡ true → n ≤ 32 → length (sheetText n R P cs) ≤ 65536
-sheet-bound n R P cs a b l =
-    let q = passed n R a b in
-    let x = few-blocks n R l (omega (arith, q .levels, q .log-high)) in
-    let y = mul-le-mul l l in
+pub sheet-bound : (h w R : ℕ) (P : List ℤ) (cs : List ℕ) → isSides h w ≡ true → isDepth R h w ≡ true → h ≤ 32 → w ≤ 32 → length (sheetText h w R P cs) ≤ 65536
+sheet-bound h w R P cs a b l m =
+    let q = passed h w R a b in
+    let x = few-blocks h w R l m (q .few) in
+    let y = mul-le-mul m l in
     omega (
       arith,
-      sheet-length n R P cs,
-      width-le 10 n,
+      sheet-length h w R P cs,
+      width-le 10 h,
+      width-le 10 w,
       width-le 10 R,
-      block-lines (blockPlaces R n n) cs,
-      blocks-count 0 R n n,
-      entry-lines (imageOf n P) (planePlaces R n n),
-      entry-count n R q,
+      block-lines (blockPlaces R h w) cs,
+      blocks-count 0 R h w,
+      entry-lines (imageOf h P) (planePlaces R h w),
+      entry-count h w R q,
     )

@@ -1,14 +1,15 @@
 -- What the cutter prints, by what its checks found. Assumes nothing.
-use mathlib.Core.Path.{_≡_, sym, ap, _∙_, subst}
-use mathlib.Core.Bool.{true, false}
+use mathlib.Core.Path.{_≡_, refl, sym, ap, _∙_, subst}
+use mathlib.Core.Bool.{Bool, true, false, _||_}
 use mathlib.Core.List.{List, []}
 use mathlib.Core.Option.{Option, none}
 use Prim.Native.Nat.{ℕ, _<_, _≤_}
 use native.Mathlib.Omega.{arith}
+use lib.Dec.{ltb}
 use lib.IntN.{ℤ}
 use lib.ListN.{length, getD, drop, length-append}
-use borrow.Author.Tests.{lt-ltb, le-ltb}
-use Rattle.pyramid.specs.Sides.{isSide, isDepth}
+use borrow.Author.Tests.{ltb-false, lt-ltb, le-ltb}
+use Rattle.pyramid.specs.Sides.{isSides, isDepth}
 use Rattle.refusals.specs.Refusal.{numberOf, answerOf}
 use Rattle.refusals.specs.declared.Refusal.{Refusal}
 use Rattle.refusals.specs.declared.Answer.{Answer}
@@ -30,38 +31,42 @@ pub printed : {x y old new : List ℕ} {m : ℕ} → x ≡ y → Printed y old n
 printed {x} {y} {old} {new} {m} e h = subst (λ (t : List ℕ). Printed t old new m) (sym e) h
 
 -- the rows
-module _ (n R K : ℕ) (o : Option (List (List (List ℤ)))) where
-  none-text : o ≡ none → samplesText n R K o ≡ refusalText 9
+module _ (h w R K : ℕ) (o : Option (List (List (List ℤ)))) where
+  none-text : o ≡ none → samplesText h w R K o ≡ refusalText 9
   unfolding samplesText
   none-text e = rw e
 
-  pub no-rows : (new : List ℕ) (a : Answer) (r : Refusal) → a ≡ Rejected r → SamplesIn n o new a → (m : ℕ) → m ≡ answerOf a → samplesText n R K o ≡ refusalText m
-  no-rows new a r e h m k = let x = subst (SamplesIn n o new) e h in none-text (x .0) ∙ ap refusalText (sym (k ∙ ap answerOf e ∙ x .1))
+  pub no-rows : (new : List ℕ) (a : Answer) (r : Refusal) → a ≡ Rejected r → SamplesIn h w o new a → (m : ℕ) → m ≡ answerOf a → samplesText h w R K o ≡ refusalText m
+  no-rows new a r e f m k = let x = subst (SamplesIn h w o new) e f in none-text (x .0) ∙ ap refusalText (sym (k ∙ ap answerOf e ∙ x .1))
 
-  stored-text : (new : List ℕ) → Stored n o new → samplesText n R K o ≡ pictureText n R K new
+  stored-text : (new : List ℕ) → Stored h w o new → samplesText h w R K o ≡ pictureText h w R K new
   unfolding samplesText
-  stored-text new h = ap (samplesText n R K) (h .read) ∙ sym (held-text n R K (pictureIn n (getD (h .lines) 0 []))) ∙ ap (pictureText n R K) (sym (h .samples))
+  stored-text new f = ap (samplesText h w R K) (f .read) ∙ sym (held-text h w R K (pictureIn h w (getD (f .lines) 0 []))) ∙ ap (pictureText h w R K) (sym (f .samples))
 
-  pub some-rows : (new : List ℕ) (a : Answer) → a ≡ Done → SamplesIn n o new a → samplesText n R K o ≡ pictureText n R K new
-  some-rows new a e h = stored-text new (subst (SamplesIn n o new) e h)
+  pub some-rows : (new : List ℕ) (a : Answer) → a ≡ Done → SamplesIn h w o new a → samplesText h w R K o ≡ pictureText h w R K new
+  some-rows new a e f = stored-text new (subst (SamplesIn h w o new) e f)
 
 -- the sizes
-module _ (n R K : ℕ) (rest : List ℕ) where
-  size-1 : isSide n ≡ false → sizesText n R K rest ≡ refusalText 1
+module _ (h w R K : ℕ) (rest : List ℕ) where
+  size-1 : isSides h w ≡ false → sizesText h w R K rest ≡ refusalText 1
   unfolding sizesText
   size-1 e = rw e
 
-  size-12 : isSide n ≡ true → 32 < n → sizesText n R K rest ≡ refusalText 12
+  size-12 : isSides h w ≡ true → (ltb 32 h || ltb 32 w) ≡ true → sizesText h w R K rest ≡ refusalText 12
   unfolding sizesText
-  size-12 e l = rw (e, lt-ltb 32 n l)
+  size-12 e l = rw (e, l)
 
-  size-2 : isSide n ≡ true → n ≤ 32 → isDepth R n n ≡ false → sizesText n R K rest ≡ refusalText 2
+  size-2 : isSides h w ≡ true → (ltb 32 h || ltb 32 w) ≡ false → isDepth R h w ≡ false → sizesText h w R K rest ≡ refusalText 2
   unfolding sizesText
-  size-2 e l d = rw (e, le-ltb 32 n l, d)
+  size-2 e l d = rw (e, l, d)
 
-  size-good : isSide n ≡ true → n ≤ 32 → isDepth R n n ≡ true → sizesText n R K rest ≡ samplesText n R K (parse (samplesForm n) rest)
+  size-good : isSides h w ≡ true → (ltb 32 h || ltb 32 w) ≡ false → isDepth R h w ≡ true → sizesText h w R K rest ≡ samplesText h w R K (parse (samplesForm h w) rest)
   unfolding sizesText
-  size-good e l d = rw (e, le-ltb 32 n l, d)
+  size-good e l d = rw (e, l, d)
+
+neither : (a b : Bool) → (a || b) ≡ false → (a ≡ false) × (b ≡ false)
+neither true b e = absurd (let z : _≡_ {A = ℕ} 0 1 = cc in omega arith)
+neither false b e = (refl, e)
 
 -- the whole
 module _ (t : List ℕ) where
@@ -78,22 +83,30 @@ module _ (t : List ℕ) where
     no-header o r e h = subst (Checked t) (sym e) (bad-text r (subst (HeaderIn t) e h))
 
     module _ (h : Heading) (e : Headed t h) where
-      sizes : cutterText t ≡ sizesText (h .side) (h .levels) (h .quota) (drop (h .next) t)
+      sizes : cutterText t ≡ sizesText (h .height) (h .width) (h .levels) (h .quota) (drop (h .next) t)
       unfolding cutterText headerText
       sizes = rw (le-ltb inputLimit (length t) l, e .read)
 
-      pub no-side : isSide (h .side) ≡ false → cutterText t ≡ refusalText 1
-      no-side a = sizes ∙ size-1 (h .side) (h .levels) (h .quota) (drop (h .next) t) a
+      pub no-sides : isSides (h .height) (h .width) ≡ false → cutterText t ≡ refusalText 1
+      no-sides a = sizes ∙ size-1 (h .height) (h .width) (h .levels) (h .quota) (drop (h .next) t) a
 
-      pub too-large : isSide (h .side) ≡ true → 32 < h .side → cutterText t ≡ refusalText 12
-      too-large a b = sizes ∙ size-12 (h .side) (h .levels) (h .quota) (drop (h .next) t) a b
+      pub too-large : isSides (h .height) (h .width) ≡ true → (ltb 32 (h .height) || ltb 32 (h .width)) ≡ true → cutterText t ≡ refusalText 12
+      too-large a b = sizes ∙ size-12 (h .height) (h .width) (h .levels) (h .quota) (drop (h .next) t) a b
 
-      pub no-depth : isSide (h .side) ≡ true → h .side ≤ 32 → isDepth (h .levels) (h .side) (h .side) ≡ false → cutterText t ≡ refusalText 2
-      no-depth a b c = sizes ∙ size-2 (h .side) (h .levels) (h .quota) (drop (h .next) t) a b c
+      pub no-depth : isSides (h .height) (h .width) ≡ true → (ltb 32 (h .height) || ltb 32 (h .width)) ≡ false → isDepth (h .levels) (h .height) (h .width) ≡ false → cutterText t ≡ refusalText 2
+      no-depth a b c = sizes ∙ size-2 (h .height) (h .width) (h .levels) (h .quota) (drop (h .next) t) a b c
 
-      pub passes : isSide (h .side) ≡ true → h .side ≤ 32 → isDepth (h .levels) (h .side) (h .side) ≡ true → Passed t h
+      pub passes : isSides (h .height) (h .width) ≡ true → (ltb 32 (h .height) || ltb 32 (h .width)) ≡ false → isDepth (h .levels) (h .height) (h .width) ≡ true → Passed t h
       passes a b c =
-          record { sided = a; small = b; deep = c; within = e .within; text = sizes ∙ size-good (h .side) (h .levels) (h .quota) (drop (h .next) t) a b c }
+          let s = neither (ltb 32 (h .height)) (ltb 32 (h .width)) b in
+          record {
+            sided = a;
+            tall = ltb-false 32 (h .height) (s .0);
+            wide = ltb-false 32 (h .width) (s .1);
+            deep = c;
+            within = e .within;
+            text = sizes ∙ size-good (h .height) (h .width) (h .levels) (h .quota) (drop (h .next) t) a b c;
+          }
 
   pub no-sizes : (o : Header) (r : Refusal) → o ≡ Refused r → Checked t o → (m : ℕ) → m ≡ headerOf o → cutterText t ≡ refusalText m
   no-sizes o r e h m k = subst (Checked t) e h ∙ ap refusalText (sym (k ∙ ap headerOf e))

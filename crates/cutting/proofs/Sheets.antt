@@ -20,7 +20,7 @@ use Rattle.refusals.specs.declared.Counted.the-variants.{Count, Refused as Reje
 use Rattle.coverings.specs.Entry.{isNumber}
 use Rattle.pyramid.specs.Plane.{Fits, allBlocks}
 use Rattle.pyramid.specs.Ranges.{inRange}
-use Rattle.pyramid.specs.Sides.{isSide, isDepth}
+use Rattle.pyramid.specs.Sides.{isSides, isDepth}
 use Rattle.pyramid.specs.Slices.{imageOf, pictureOf, planeOf, coversOf}
 use Rattle.pyramid.proofs.Accepted.{plane-accepted}
 use Rattle.pyramid.proofs.Choose.{covers-length, covers-numbers}
@@ -57,140 +57,140 @@ is-so true e = refl
 is-so false e = sym e
 
 -- what is printed
-module _ (n R K : ℕ) (s : List ℕ) where
-  print-4 : every isSample s ≡ false → pictureText n R K s ≡ refusalText 4
+module _ (h w R K : ℕ) (s : List ℕ) where
+  print-4 : every isSample s ≡ false → pictureText h w R K s ≡ refusalText 4
   unfolding pictureText
   print-4 e = rw e
 
-  print-kept : every isSample s ≡ true → pictureText n R K s ≡ keptText n R K (planeOf R n n s) (coversOf R n n s)
+  print-kept : every isSample s ≡ true → pictureText h w R K s ≡ keptText h w R K (planeOf R h w s) (coversOf R h w s)
   unfolding pictureText
   print-kept e = rw e
 
-module _ (n R K : ℕ) (p : List ℤ) (c : List ℕ) where
-  print-7 : ltb (quotaLimit n R) K ≡ true → keptText n R K p c ≡ refusalText 7
-  print-7 h = rw h
+module _ (h w R K : ℕ) (p : List ℤ) (c : List ℕ) where
+  print-7 : ltb (quotaLimit h w R) K ≡ true → keptText h w R K p c ≡ refusalText 7
+  print-7 e = rw e
 
-  print-sheet : ltb (quotaLimit n R) K ≡ false → keptText n R K p c ≡ sheetText n R (keptOf R n n K p) c
-  print-sheet h = rw h
+  print-sheet : ltb (quotaLimit h w R) K ≡ false → keptText h w R K p c ≡ sheetText h w R (keptOf R h w K p) c
+  print-sheet e = rw e
 
-pub held-text : (n R K : ℕ) (s : List ℕ) → pictureText n R K (map heldTo s) ≡ pictureText n R K s
-held-text n R K s = go (every isSample s) refl
+pub held-text : (h w R K : ℕ) (s : List ℕ) → pictureText h w R K (map heldTo s) ≡ pictureText h w R K s
+held-text h w R K s = go (every isSample s) refl
   where
-    go : (t : Bool) → every isSample s ≡ t → pictureText n R K (map heldTo s) ≡ pictureText n R K s
-    go true e = ap (pictureText n R K) (held-same s e)
-    go false e = print-4 n R K (map heldTo s) (same-samples s ∙ e) ∙ sym (print-4 n R K s e)
+    go : (t : Bool) → every isSample s ≡ t → pictureText h w R K (map heldTo s) ≡ pictureText h w R K s
+    go true e = ap (pictureText h w R K) (held-same s e)
+    go false e = print-4 h w R K (map heldTo s) (same-samples s ∙ e) ∙ sym (print-4 h w R K s e)
 
 -- a picture that passed
-module _ (n R : ℕ) (s : List ℕ) (a : isSide n ≡ true) (b : isDepth R n n ≡ true) (k : length s ≡ n * n) where
+module _ (h w R : ℕ) (s : List ℕ) (a : isSides h w ≡ true) (b : isDepth R h w ≡ true) (k : length s ≡ w * h) where
   abbrev P : List ℤ
-  P = planeOf R n n s
+  P = planeOf R h w s
 
   abbrev C : List ℕ
-  C = coversOf R n n s
+  C = coversOf R h w s
 
-  module _ (p : List ℤ) (c : List ℕ) (q : List ℤ) (kp : length p ≡ n * n) (kc : length c ≡ allBlocks R n n) (kq : length q ≡ n * n) where
-    decomposes : decomposeRefusal n R s p c q ≡ refuseIf (not (every isSample s)) 4 0
-    decomposes = rw (a, b, eq-eqb (length s) (n * n) k, eq-eqb (length p) (n * n) kp, eq-eqb (length c) (allBlocks R n n) kc, eq-eqb (length q) (n * n) kq)
+  module _ (p : List ℤ) (c : List ℕ) (q : List ℤ) (kp : length p ≡ w * h) (kc : length c ≡ allBlocks R h w) (kq : length q ≡ w * h) where
+    decomposes : decomposeRefusal h w R s p c q ≡ refuseIf (not (every isSample s)) 4 0
+    decomposes = rw (a, b, eq-eqb (length s) (w * h) k, eq-eqb (length p) (w * h) kp, eq-eqb (length c) (allBlocks R h w) kc, eq-eqb (length q) (w * h) kq)
 
-    bad-samples : {p′ q′ : List ℤ} {c′ : List ℕ} (r : Refusal) → Decomposed n R s p p′ c c′ q q′ (numberOf r) → (every isSample s ≡ false) × (numberOf r ≡ 4)
+    bad-samples : {p′ q′ : List ℤ} {c′ : List ℕ} (r : Refusal) → Decomposed h w R s p p′ c c′ q q′ (numberOf r) → (every isSample s ≡ false) × (numberOf r ≡ 4)
     bad-samples r d = let x = refused-by r (not (every isSample s)) 4 (d .number ∙ decomposes) in (is-not (every isSample s) (x .0), x .1)
 
-    good-samples : {p′ q′ : List ℤ} {c′ : List ℕ} → Decomposed n R s p p′ c c′ q q′ 0 → every isSample s ≡ true
+    good-samples : {p′ q′ : List ℤ} {c′ : List ℕ} → Decomposed h w R s p p′ c c′ q q′ 0 → every isSample s ≡ true
     good-samples d = is-so (every isSample s) (passed-by (not (every isSample s)) 3 (d .number ∙ decomposes))
 
   module _ (g : every isSample s ≡ true) where
-    below : (i : ℕ) → i < n * n → getD s i 0 ≤ 4095
+    below : (i : ℕ) → i < w * h → getD s i 0 ≤ 4095
     below = small-samples s g k
 
-    ranges : inRange R n n (imageOf n P) ≡ true
-    ranges = let q = passed n R a b in is-true (inRange R n n (imageOf n P)) (go R (q .fits) (q .some-level))
+    ranges : inRange R h w (imageOf h P) ≡ true
+    ranges = let q = passed h w R a b in is-true (inRange R h w (imageOf h P)) (go R (q .fits) (q .some-level))
       where
-        go : (r : ℕ) → Fits r n n → 1 ≤ r → T (inRange r n n (imageOf n (planeOf r n n s)))
+        go : (r : ℕ) → Fits r h w → 1 ≤ r → T (inRange r h w (imageOf h (planeOf r h w s)))
         go zero f l = absurd (omega arith)
-        go (suc r) f l = plane-accepted r n n f s below
+        go (suc r) f l = plane-accepted r h w f s below
 
-    kept-ranges : (K : ℕ) → inRange R n n (imageOf n (keptOf R n n K P)) ≡ true
-    kept-ranges K = let q = passed n R a b in is-true (inRange R n n (imageOf n (keptOf R n n K P))) (go R (q .fits) (q .some-level))
+    kept-ranges : (K : ℕ) → inRange R h w (imageOf h (keptOf R h w K P)) ≡ true
+    kept-ranges K = let q = passed h w R a b in is-true (inRange R h w (imageOf h (keptOf R h w K P))) (go R (q .fits) (q .some-level))
       where
-        go : (r : ℕ) → Fits r n n → 1 ≤ r → T (inRange r n n (imageOf n (keptOf r n n K (planeOf r n n s))))
+        go : (r : ℕ) → Fits r h w → 1 ≤ r → T (inRange r h w (imageOf h (keptOf r h w K (planeOf r h w s))))
         go zero f l = absurd (omega arith)
-        go (suc r) f l = kept-accepted r n n f s below K
+        go (suc r) f l = kept-accepted r h w f s below K
 
     numbers : every isNumber C ≡ true
     numbers =
         is-true (every isNumber C)
         (every-of isNumber C 0
-        (λ i l. let m = covers-numbers R n n (pictureOf n s) i (rw (← covers-length R n n (pictureOf n s)) l) in both (leb 1 (getD C i 0)) (leb (getD C i 0) 117) (le→leb 1 _ (m .0)) (le→leb _ 117 (m .1))))
+        (λ i l. let m = covers-numbers R h w (pictureOf h s) i (rw (← covers-length R h w (pictureOf h s)) l) in both (leb 1 (getD C i 0)) (leb (getD C i 0) 117) (le→leb 1 _ (m .0)) (le→leb _ 117 (m .1))))
 
-    keeps : (K : ℕ) → keepRefusal n R P K ≡ refuseIf (ltb (quotaLimit n R) K) 7 0
-    keeps K = rw (a, b, eq-eqb (length P) (n * n) (slice-length n n _), ranges)
+    keeps : (K : ℕ) → keepRefusal h w R P K ≡ refuseIf (ltb (quotaLimit h w R) K) 7 0
+    keeps K = rw (a, b, eq-eqb (length P) (w * h) (slice-length h w _), ranges)
 
-    bad-quota : {p′ : List ℤ} (K : ℕ) (r : Refusal) → Kept n R P p′ K (numberOf r) 0 → (ltb (quotaLimit n R) K ≡ true) × (numberOf r ≡ 7)
-    bad-quota K r d = refused-by r (ltb (quotaLimit n R) K) 7 (d .number ∙ keeps K)
+    bad-quota : {p′ : List ℤ} (K : ℕ) (r : Refusal) → Kept h w R P p′ K (numberOf r) 0 → (ltb (quotaLimit h w R) K ≡ true) × (numberOf r ≡ 7)
+    bad-quota K r d = refused-by r (ltb (quotaLimit h w R) K) 7 (d .number ∙ keeps K)
 
-    good-quota : {p′ : List ℤ} (K m : ℕ) → Kept n R P p′ K 0 m → ltb (quotaLimit n R) K ≡ false
-    good-quota K m d = passed-by (ltb (quotaLimit n R) K) 6 (d .number ∙ keeps K)
+    good-quota : {p′ : List ℤ} (K m : ℕ) → Kept h w R P p′ K 0 m → ltb (quotaLimit h w R) K ≡ false
+    good-quota K m d = passed-by (ltb (quotaLimit h w R) K) 6 (d .number ∙ keeps K)
 
-    writes : n ≤ 32 → (K : ℕ) (out : List ℕ) → 65536 ≤ length out → writeRefusal n R (keptOf R n n K P) C out ≡ 0
-    writes l K out h =
-        let x = sheet-bound n R (keptOf R n n K P) C a b l in
-        rw (a, b, eq-eqb (length (keptOf R n n K P)) (n * n) (slice-length n n _), eq-eqb (length C) (allBlocks R n n) (covers-length R n n (pictureOf n s)), numbers, kept-ranges K, le-ltb (length out) (length (sheetText n R (keptOf R n n K P) C)) (omega arith))
+    writes : h ≤ 32 → w ≤ 32 → (K : ℕ) (out : List ℕ) → 65536 ≤ length out → writeRefusal h w R (keptOf R h w K P) C out ≡ 0
+    writes l m K out room =
+        let x = sheet-bound h w R (keptOf R h w K P) C a b l m in
+        rw (a, b, eq-eqb (length (keptOf R h w K P)) (w * h) (slice-length h w _), eq-eqb (length C) (allBlocks R h w) (covers-length R h w (pictureOf h s)), numbers, kept-ranges K, le-ltb (length out) (length (sheetText h w R (keptOf R h w K P) C)) (omega arith))
 
 -- decomposing: the refusal that came back is printed, or what is left to print is what keeping and writing give
-module _ (n R K : ℕ) (s : List ℕ) (a : isSide n ≡ true) (b : isDepth R n n ≡ true) (k : length s ≡ n * n) where
-  module _ (p : List ℤ) (c : List ℕ) (q : List ℤ) (kp : length p ≡ n * n) (kc : length c ≡ allBlocks R n n) (kq : length q ≡ n * n) (p′ : List ℤ) (c′ : List ℕ) (q′ : List ℤ) (o : Answer) (d : Decomposed n R s p p′ c c′ q q′ (answerOf o)) where
-    answered : (x : Answer) → o ≡ x → Decomposed n R s p p′ c c′ q q′ (answerOf x)
-    answered x e = subst (λ (y : Answer). Decomposed n R s p p′ c c′ q q′ (answerOf y)) e d
+module _ (h w R K : ℕ) (s : List ℕ) (a : isSides h w ≡ true) (b : isDepth R h w ≡ true) (k : length s ≡ w * h) where
+  module _ (p : List ℤ) (c : List ℕ) (q : List ℤ) (kp : length p ≡ w * h) (kc : length c ≡ allBlocks R h w) (kq : length q ≡ w * h) (p′ : List ℤ) (c′ : List ℕ) (q′ : List ℤ) (o : Answer) (d : Decomposed h w R s p p′ c c′ q q′ (answerOf o)) where
+    answered : (x : Answer) → o ≡ x → Decomposed h w R s p p′ c c′ q q′ (answerOf x)
+    answered x e = subst (λ (y : Answer). Decomposed h w R s p p′ c c′ q q′ (answerOf y)) e d
 
-    pub end-4 : (r : Refusal) → o ≡ Refused r → (m : ℕ) → m ≡ answerOf o → pictureText n R K s ≡ refusalText m
-    end-4 r e m h =
-        let x = bad-samples n R s a b k p c q kp kc kq r (answered (Refused r) e) in
-        print-4 n R K s (x .0) ∙ ap refusalText (sym (h ∙ ap answerOf e ∙ x .1))
+    pub end-4 : (r : Refusal) → o ≡ Refused r → (m : ℕ) → m ≡ answerOf o → pictureText h w R K s ≡ refusalText m
+    end-4 r e m i =
+        let x = bad-samples h w R s a b k p c q kp kc kq r (answered (Refused r) e) in
+        print-4 h w R K s (x .0) ∙ ap refusalText (sym (i ∙ ap answerOf e ∙ x .1))
 
     module _ (e : o ≡ Done) where
       good : every isSample s ≡ true
-      good = good-samples n R s a b k p c q kp kc kq (answered Done e)
+      good = good-samples h w R s a b k p c q kp kc kq (answered Done e)
 
-      pub decomposed : OfPicture n R p′ c′
+      pub decomposed : OfPicture h w R p′ c′
       decomposed = record { samples = s; long = k; good = good; plane = answered Done e .planes; covers = answered Done e .covers }
 
-      pub left : pictureText n R K s ≡ keptText n R K p′ c′
-      left = print-kept n R K s good ∙ (λ i. keptText n R K (sym (answered Done e .planes) i) (sym (answered Done e .covers) i))
+      pub left : pictureText h w R K s ≡ keptText h w R K p′ c′
+      left = print-kept h w R K s good ∙ (λ i. keptText h w R K (sym (answered Done e .planes) i) (sym (answered Done e .covers) i))
 
 -- keeping, and then writing
-module _ (n R K : ℕ) (a : isSide n ≡ true) (b : isDepth R n n ≡ true) (p : List ℤ) (c : List ℕ) (g : OfPicture n R p c) (p′ : List ℤ) (u : Counted) (v : Kept n R p p′ K (countedOf u) (countOf u)) where
+module _ (h w R K : ℕ) (a : isSides h w ≡ true) (b : isDepth R h w ≡ true) (p : List ℤ) (c : List ℕ) (g : OfPicture h w R p c) (p′ : List ℤ) (u : Counted) (v : Kept h w R p p′ K (countedOf u) (countOf u)) where
   abbrev Q : List ℤ
-  Q = keptOf R n n K (planeOf R n n (g .samples))
+  Q = keptOf R h w K (planeOf R h w (g .samples))
 
   abbrev D : List ℕ
-  D = coversOf R n n (g .samples)
+  D = coversOf R h w (g .samples)
 
-  kept : (x : Counted) → u ≡ x → Kept n R (planeOf R n n (g .samples)) p′ K (countedOf x) (countOf x)
-  kept x h = subst (λ (y : List ℤ). Kept n R y p′ K (countedOf x) (countOf x)) (g .plane) (subst (λ (y : Counted). Kept n R p p′ K (countedOf y) (countOf y)) h v)
+  kept : (x : Counted) → u ≡ x → Kept h w R (planeOf R h w (g .samples)) p′ K (countedOf x) (countOf x)
+  kept x i = subst (λ (y : List ℤ). Kept h w R y p′ K (countedOf x) (countOf x)) (g .plane) (subst (λ (y : Counted). Kept h w R p p′ K (countedOf y) (countOf y)) i v)
 
-  pub end-7 : (r : Refusal) → u ≡ Rejected r → (m : ℕ) → m ≡ countedOf u → keptText n R K p c ≡ refusalText m
-  end-7 r h m e =
-      let x = bad-quota n R (g .samples) a b (g .long) (g .good) K r (kept (Rejected r) h) in
-      print-7 n R K p c (x .0) ∙ ap refusalText (sym (e ∙ ap countedOf h ∙ x .1))
+  pub end-7 : (r : Refusal) → u ≡ Rejected r → (m : ℕ) → m ≡ countedOf u → keptText h w R K p c ≡ refusalText m
+  end-7 r i m e =
+      let x = bad-quota h w R (g .samples) a b (g .long) (g .good) K r (kept (Rejected r) i) in
+      print-7 h w R K p c (x .0) ∙ ap refusalText (sym (e ∙ ap countedOf i ∙ x .1))
 
-  module _ (m₀ : ℕ) (h : u ≡ Count m₀) (l : n ≤ 32) (old new : List ℕ) (room : 65536 ≤ length old) (w : Counted) (z : WriteAnswered n R p′ c old new (countedOf w) (countOf w)) where
-    accepted : writeRefusal n R Q D old ≡ 0
-    accepted = writes n R (g .samples) a b (g .long) (g .good) l K old room
+  module _ (m₀ : ℕ) (counts : u ≡ Count m₀) (tall : h ≤ 32) (wide : w ≤ 32) (old new : List ℕ) (room : 65536 ≤ length old) (answer : Counted) (z : WriteAnswered h w R p′ c old new (countedOf answer) (countOf answer)) where
+    accepted : writeRefusal h w R Q D old ≡ 0
+    accepted = writes h w R (g .samples) a b (g .long) (g .good) tall wide K old room
 
-    wrote : (x : Counted) → w ≡ x → WriteAnswered n R Q D old new (countedOf x) (countOf x)
+    wrote : (x : Counted) → answer ≡ x → WriteAnswered h w R Q D old new (countedOf x) (countOf x)
     wrote x i =
-        subst (λ (y : List ℤ). WriteAnswered n R y D old new (countedOf x) (countOf x)) (kept (Count m₀) h .planes)
-        (subst (λ (y : List ℕ). WriteAnswered n R p′ y old new (countedOf x) (countOf x)) (g .covers) (subst (λ (y : Counted). WriteAnswered n R p′ c old new (countedOf y) (countOf y)) i z))
+        subst (λ (y : List ℤ). WriteAnswered h w R y D old new (countedOf x) (countOf x)) (kept (Count m₀) counts .planes)
+        (subst (λ (y : List ℕ). WriteAnswered h w R p′ y old new (countedOf x) (countOf x)) (g .covers) (subst (λ (y : Counted). WriteAnswered h w R p′ c old new (countedOf y) (countOf y)) i z))
 
-    pub end-10 : (r : Refusal) → w ≡ Rejected r → ⊥
+    pub end-10 : (r : Refusal) → answer ≡ Rejected r → ⊥
     end-10 r i = never-zero r (wrote (Rejected r) i .number ∙ accepted)
 
-    pub end-sheet : (m : ℕ) → w ≡ Count m → Printed (keptText n R K p c) old new m
+    pub end-sheet : (m : ℕ) → answer ≡ Count m → Printed (keptText h w R K p c) old new m
     end-sheet m i =
         let x = wrote (Count m) i in
         subst (λ (t : List ℕ). Printed t old new m)
-        (sym (print-sheet n R K p c (good-quota n R (g .samples) a b (g .long) (g .good) K m₀ (kept (Count m₀) h)) ∙ (λ j. sheetText n R (keptOf R n n K (g .plane j)) (g .covers j))))
+        (sym (print-sheet h w R K p c (good-quota h w R (g .samples) a b (g .long) (g .good) K m₀ (kept (Count m₀) counts)) ∙ (λ j. sheetText h w R (keptOf R h w K (g .plane j)) (g .covers j))))
         (record {
-          size = x .count ∙ ap (λ (y : ℕ). afterCall y (length (sheetText n R Q D)) 0) accepted;
-          slice = x .slice ∙ ap (λ (y : ℕ). afterCall y (sheetText n R Q D ++ drop (length (sheetText n R Q D)) old) old) accepted;
+          size = x .count ∙ ap (λ (y : ℕ). afterCall y (length (sheetText h w R Q D)) 0) accepted;
+          slice = x .slice ∙ ap (λ (y : ℕ). afterCall y (sheetText h w R Q D ++ drop (length (sheetText h w R Q D)) old) old) accepted;
         })

@@ -1,6 +1,6 @@
 -- What the cutter prints for an input. Assumes nothing.
 use mathlib.Core.Path.{_≡_}
-use mathlib.Core.Bool.{Bool, true, false, not}
+use mathlib.Core.Bool.{Bool, true, false, not, _||_}
 use mathlib.Core.List.{List, [], _++_}
 use mathlib.Core.Option.{Option, none, some}
 use Prim.Native.Nat.{ℕ}
@@ -8,7 +8,7 @@ use lib.Dec.{ltb}
 use lib.IntN.{ℤ}
 use lib.ListN.{length, getD, drop}
 use Rattle.integers.specs.Lists.{every}
-use Rattle.pyramid.specs.Sides.{isSide, isDepth}
+use Rattle.pyramid.specs.Sides.{isSides, isDepth}
 use Rattle.pyramid.specs.Slices.{planeOf, coversOf}
 use Rattle.quota.specs.Quota.{keptOf, quotaLimit}
 use Rattle.coder.specs.Entries.{isSample}
@@ -30,29 +30,29 @@ printIf true m rest = refusalText m
 printIf false m rest = rest
 
 -- Document 01: "cutter .. 4 7"; and else it "decomposes, keeps, and prints the sheet", here of the picture s.
-unfoldable pub pictureText : ℕ → ℕ → ℕ → List ℕ → List ℕ
-pictureText n R K s =
+unfoldable pub pictureText : ℕ → ℕ → ℕ → ℕ → List ℕ → List ℕ
+pictureText h w R K s =
     printIf (not (every isSample s)) 4
-    (printIf (ltb (quotaLimit n R) K) 7
-    (sheetText n R (keptOf R n n K (planeOf R n n s)) (coversOf R n n s)))
+    (printIf (ltb (quotaLimit h w R) K) 7
+    (sheetText h w R (keptOf R h w K (planeOf R h w s)) (coversOf R h w s)))
 
 -- "9 on all that follows" the header: the rows, where the rest of the text holds them and nothing else.
-unfoldable pub samplesText : ℕ → ℕ → ℕ → Option (List (List (List ℤ))) → List ℕ
-samplesText n R K none = refusalText 9
-samplesText n R K (some lines) = pictureText n R K (pictureIn n (getD lines 0 []))
+unfoldable pub samplesText : ℕ → ℕ → ℕ → ℕ → Option (List (List (List ℤ))) → List ℕ
+samplesText h w R K none = refusalText 9
+samplesText h w R K (some lines) = pictureText h w R K (pictureIn h w (getD lines 0 []))
 
--- "1 12 2", for the header's side n, levels R and quota K and the bytes after it.
-unfoldable pub sizesText : ℕ → ℕ → ℕ → List ℕ → List ℕ
-sizesText n R K rest =
-    printIf (not (isSide n)) 1
-    (printIf (ltb 32 n) 12
-    (printIf (not (isDepth R n n)) 2
-    (samplesText n R K (parse (samplesForm n) rest))))
+-- "1 12 2", for the header's height h, width w, levels R and quota K and the bytes after it. Document 02, wish 2: "Refusals 1 and 12 look at both numbers."
+unfoldable pub sizesText : ℕ → ℕ → ℕ → ℕ → List ℕ → List ℕ
+sizesText h w R K rest =
+    printIf (not (isSides h w)) 1
+    (printIf (ltb 32 h || ltb 32 w) 12
+    (printIf (not (isDepth R h w)) 2
+    (samplesText h w R K (parse (samplesForm h w) rest))))
 
 -- "9 on the header (its first two lines)".
 unfoldable pub headerText : Parsed (List (List (List ℤ))) → List ℕ
 headerText bad = refusalText 9
-headerText (got lines rest) = let h = getD (getD lines 0 []) 0 [] in sizesText (cellAt h 0) (cellAt h 1) (cellAt h 2) rest
+headerText (got lines rest) = let r = getD (getD lines 0 []) 0 [] in sizesText (cellAt r 0) (cellAt r 1) (cellAt r 2) (cellAt r 3) rest
 
 -- "Input over 65,536 bytes is 9, before all else."
 abbrev pub inputLimit : ℕ

@@ -14,13 +14,13 @@ use Rattle.sheet_text.specs.Sheet.{sheetText}
 use Rattle.cutting.specs.Cutter.{printIf}
 
 -- A plane and coverings that decomposing gives for some picture.
-pub record OfPicture (n R : ℕ) (p : List ℤ) (c : List ℕ) : Type 0 where
+pub record OfPicture (h w R : ℕ) (p : List ℤ) (c : List ℕ) : Type 0 where
   pub samples : List ℕ
-  pub long : length samples ≡ n * n
+  pub long : length samples ≡ w * h
   pub good : every isSample samples ≡ true
-  pub plane : p ≡ planeOf R n n samples
-  pub covers : c ≡ coversOf R n n samples
+  pub plane : p ≡ planeOf R h w samples
+  pub covers : c ≡ coversOf R h w samples
 
 -- What `pictureText` is where every sample is in its range: 7, or the sheet.
-abbrev pub keptText : ℕ → ℕ → ℕ → List ℤ → List ℕ → List ℕ
-keptText n R K p c = printIf (ltb (quotaLimit n R) K) 7 (sheetText n R (keptOf R n n K p) c)
+abbrev pub keptText : ℕ → ℕ → ℕ → ℕ → List ℤ → List ℕ → List ℕ
+keptText h w R K p c = printIf (ltb (quotaLimit h w R) K) 7 (sheetText h w R (keptOf R h w K p) c)

@@ -15,7 +15,7 @@ cellPlace h start k = start + k / 4 * h + k % 4
 abbrev pub bandPlace : ℕ → List ℕ → ℕ → ℕ
 bandPlace h starts k = getD starts (k / 4) 0 + k % 4 / 2 * h + k % 4 % 2
 
--- Where the results of the block in block row i, block column j begin, in the four bands of a square of `tall` rows and `wide` columns.
+-- Where the results of the block in block row i, block column j begin, in the four bands of a rectangle of `tall` rows and `wide` columns.
 unfoldable pub startsOf : ℕ → ℕ → ℕ → ℕ → ℕ → List ℕ
 startsOf h tall wide i j = tabulate 4 (λ b. (left wide b + j * 2) * h + (top tall b + i * 2))
 

@@ -23,16 +23,16 @@ use Rattle.sifting.specs.Sifting.{ties, Limit, sifts, siftedOf}
 use Rattle.sifting.proofs.Limits.{keep-by, ties-few}
 use Rattle.sifting.proofs.Passing.{same-selected}
 
-pub kept-is : (R n : ℕ) → Fits R n n → (p : List ℤ) (K t over : ℕ) → Limit (ranks R n n (imageOf n p)) K t over → siftedOf R n t (K - over) p ≡ keptOf R n n K p
-kept-is R n f p K t over h =
-    same-selected R n f (sifts t (K - over) q) (stays K q) P
-    (λ m l. ap (λ (b : Bool). cond b (at P (getD (tetroletPlaces R n n) m none)) (pos 0)) (keep-by q K t over h m (subst⁻¹ (λ (x : ℕ). m < x) (q-length R n n f 0 P) l)))
+pub kept-is : (R h w : ℕ) → Fits R h w → (p : List ℤ) (K t over : ℕ) → Limit (ranks R h w (imageOf h p)) K t over → siftedOf R h w t (K - over) p ≡ keptOf R h w K p
+kept-is R h w f p K t over g =
+    same-selected R h w f (sifts t (K - over) q) (stays K q) P
+    (λ m l. ap (λ (b : Bool). cond b (at P (getD (tetroletPlaces R h w) m none)) (pos 0)) (keep-by q K t over g m (subst⁻¹ (λ (x : ℕ). m < x) (q-length R h w f 0 P) l)))
   where
     P : Image
-    P = imageOf n p
+    P = imageOf h p
 
     q : List ℕ
-    q = ranks R n n P
+    q = ranks R h w P
 
 -- ---- the threshold
 
@@ -61,23 +61,23 @@ module _ (x a y c d : ℕ) (l : 1 ≤ y) (h : c < d) where
           let g : x * y ≡ a * y = ap (λ (z : ℕ). z * y) e in
           rw (true-at 0 rank some, false-at (x * y) rank (omega arith), eq-eqb (x * y) rank g, true-at c d h, le-leb x a (omega arith)) refl
 
-pub cut-is : (R n : ℕ) → Fits R n n → (p : List ℤ) (T t left : ℕ) → t ≡ T * 2 ^ R → left ≡ n * n → siftedOf R n t left p ≡ cutOf R n n T p
-cut-is R n f p T t left e g =
-    (λ i. siftedOf R n (e i) (g i) p)
-    ∙ same-selected R n f (sifts (T * 2 ^ R) (n * n) q) (λ m. passes T P (getD (tetroletPlaces R n n) m none)) P one
+pub cut-is : (R h w : ℕ) → Fits R h w → (p : List ℤ) (T t left : ℕ) → t ≡ T * 2 ^ R → left ≡ w * h → siftedOf R h w t left p ≡ cutOf R h w T p
+cut-is R h w f p T t left e g =
+    (λ i. siftedOf R h w (e i) (g i) p)
+    ∙ same-selected R h w f (sifts (T * 2 ^ R) (w * h) q) (λ m. passes T P (getD (tetroletPlaces R h w) m none)) P one
   where
     P : Image
-    P = imageOf n p
+    P = imageOf h p
 
     q : List ℕ
-    q = ranks R n n P
+    q = ranks R h w P
 
     zero-abs : (z : ℤ) → natAbs z ≡ 0 → z ≡ pos 0
     zero-abs (pos m) e = ap pos e
     zero-abs (negsuc m) e = absurd (omega arith)
 
     same : (z : ℤ) (a b : Bool) → (0 < natAbs z → a ≡ b) → cond a z (pos 0) ≡ cond b z (pos 0)
-    same z a b h = go (decLt 0 (natAbs z))
+    same z a b k = go (decLt 0 (natAbs z))
       where
         both : (a b : Bool) → z ≡ pos 0 → cond a z (pos 0) ≡ cond b z (pos 0)
         both true true e = refl
@@ -86,32 +86,32 @@ cut-is R n f p T t left e g =
         both false false e = refl
 
         go : Dec (0 < natAbs z) → cond a z (pos 0) ≡ cond b z (pos 0)
-        go (yes l) = ap (λ (b : Bool). cond b z (pos 0)) (h l)
+        go (yes l) = ap (λ (b : Bool). cond b z (pos 0)) (k l)
         go (no l) = both a b (zero-abs z (omega arith))
 
-    one : (m : ℕ) → m < length (tetroletPlaces R n n)
-        → cond (sifts (T * 2 ^ R) (n * n) q m) (at P (getD (tetroletPlaces R n n) m none)) (pos 0) ≡ cond (passes T P (getD (tetroletPlaces R n n) m none)) (at P (getD (tetroletPlaces R n n) m none)) (pos 0)
-    one m l = same z (sifts (T * 2 ^ R) (n * n) q m) (leb (T * 2 ^ v) (natAbs z)) (λ h.
-        (λ i. ltb 0 (r i) && (ltb (level i) (r i) || (eqb (level i) (r i) && ltb (ties q (T * 2 ^ R) m) (n * n))))
-        ∙ one-test (T * 2 ^ v) (natAbs z) (2 ^ (R - v)) (ties q (T * 2 ^ R) m) (n * n) (one-le-pow (R - v) 2 (omega arith)) few h)
+    one : (m : ℕ) → m < length (tetroletPlaces R h w)
+        → cond (sifts (T * 2 ^ R) (w * h) q m) (at P (getD (tetroletPlaces R h w) m none)) (pos 0) ≡ cond (passes T P (getD (tetroletPlaces R h w) m none)) (at P (getD (tetroletPlaces R h w) m none)) (pos 0)
+    one m l = same z (sifts (T * 2 ^ R) (w * h) q m) (leb (T * 2 ^ v) (natAbs z)) (λ k.
+        (λ i. ltb 0 (r i) && (ltb (level i) (r i) || (eqb (level i) (r i) && ltb (ties q (T * 2 ^ R) m) (w * h))))
+        ∙ one-test (T * 2 ^ v) (natAbs z) (2 ^ (R - v)) (ties q (T * 2 ^ R) m) (w * h) (one-le-pow (R - v) 2 (omega arith)) few k)
       where
         z : ℤ
-        z = at P (getD (tetroletPlaces R n n) m none)
+        z = at P (getD (tetroletPlaces R h w) m none)
 
         v : ℕ
-        v = (getD (tetroletPlaces R n n) m none) .level
+        v = (getD (tetroletPlaces R h w) m none) .level
 
         r : getD q m 0 ≡ natAbs z * 2 ^ (R - v)
-        r = q-at R n n f 0 P m l
+        r = q-at R h w f 0 P m l
 
-        few : ties q (T * 2 ^ R) m < n * n
-        few = omega (arith, ties-few q (T * 2 ^ R) m, places-count 0 R n n f)
+        few : ties q (T * 2 ^ R) m < w * h
+        few = omega (arith, ties-few q (T * 2 ^ R) m, places-count 0 R h w f)
 
         level : T * 2 ^ R ≡ T * 2 ^ v * 2 ^ (R - v)
-        level = let b = places-levels 0 R R n n (omega arith) m l in go (2 ^ v) (2 ^ (R - v)) (ap (λ (x : ℕ). 2 ^ x) (whole v (b .1)) ∙ pow-add 2 v (R - v))
+        level = let b = places-levels 0 R R h w (omega arith) m l in go (2 ^ v) (2 ^ (R - v)) (ap (λ (x : ℕ). 2 ^ x) (whole v (b .1)) ∙ pow-add 2 v (R - v))
           where
             whole : (v : ℕ) → v ≤ R → R ≡ v + (R - v)
-            whole v h = omega arith
+            whole v k = omega arith
 
             go : (a b : ℕ) → 2 ^ R ≡ a * b → T * 2 ^ R ≡ T * a * b
             go a b e = rw e (omega arith)

@@ -17,10 +17,11 @@ pub fn numbered(n: u32) -> Outcome {
         refusal: n,
         a: 0,
         b: 0,
+        c: 0,
     }
 }
 
-// The same number, the same count, length, or side and levels, and the same in the slices.
+// The same number, the same count, length, or height, width and levels, and the same in the slices.
 fn agree(p: Pair) -> bool {
     let v = settled(p.coder, p.plain, p.same);
     match v {

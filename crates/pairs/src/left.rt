@@ -5,7 +5,7 @@ use cases::tally::same_samples;
 use cases::tally::same_values;
 use plain_frame::outcome::Outcome;
 
-// The answer; the plane or the numerators; samples, coverings and scratch. Room for side 8 and 2 levels, and one place more.
+// The answer; the plane or the numerators; samples, coverings and scratch. Room for 8 by 8 and 2 levels, and one place more.
 pub struct Left {
     pub answer: Outcome,
     pub values: [i64; 65],

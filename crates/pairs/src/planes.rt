@@ -8,12 +8,14 @@ use cases::answers::outcome;
 use cases::safe::put_value;
 use cases::tally::same_bytes;
 use cases::tally::same_values;
+use plain_frame::frame::Extent;
 use plain_frame::outcome::Outcome;
 use sheet::Reading;
 
-// A call: side and levels, the lengths of plane and coverings, and what they hold: one value among zeros, and one covering everywhere.
+// A call: height, width and levels, the lengths of plane and coverings, and what they hold: one value among zeros, and one covering everywhere.
 pub struct Plane {
-    pub side: usize,
+    pub height: usize,
+    pub width: usize,
     pub levels: usize,
     pub plane: usize,
     pub coverings: usize,
@@ -42,7 +44,8 @@ fn restored_by_coder(k: Plane, l: Lengths) -> Left {
     let mut samples = [9u16; 65];
     let mut scratch = [-3i64; 65];
     let a = coder::restore(
-        k.side,
+        k.height,
+        k.width,
         k.levels,
         front::values(&plane, k.plane),
         front::bytes(&coverings, k.coverings),
@@ -67,7 +70,8 @@ fn restored_by_plain(words: &[u8], k: Plane, l: Lengths) -> Left {
     let mut scratch = [-3i64; 65];
     let n = plain::pyramid::restore(
         words,
-        k.side,
+        k.height,
+        k.width,
         k.levels,
         front::values(&plane, k.plane),
         front::bytes(&coverings, k.coverings),
@@ -102,8 +106,20 @@ pub fn keep(k: Plane, quota: u64) -> Pair {
     let mut plane = plane_of(k);
     let mut plane2 = plane_of(k);
     let n = k.plane;
-    let x = outcome(keeping::keep(k.side, k.levels, front::values_mut(&mut plane, n), quota));
-    let y = plain::cut::keep(k.side, k.levels, front::values_mut(&mut plane2, n), quota);
+    let x = outcome(keeping::keep(
+        k.height,
+        k.width,
+        k.levels,
+        front::values_mut(&mut plane, n),
+        quota,
+    ));
+    let y = plain::cut::keep(
+        k.height,
+        k.width,
+        k.levels,
+        front::values_mut(&mut plane2, n),
+        quota,
+    );
     Pair {
         coder: x,
         plain: y,
@@ -115,8 +131,20 @@ pub fn threshold(k: Plane, limit: u64) -> Pair {
     let mut plane = plane_of(k);
     let mut plane2 = plane_of(k);
     let n = k.plane;
-    let x = outcome(keeping::threshold(k.side, k.levels, front::values_mut(&mut plane, n), limit));
-    let y = plain::cut::cut(k.side, k.levels, front::values_mut(&mut plane2, n), limit);
+    let x = outcome(keeping::threshold(
+        k.height,
+        k.width,
+        k.levels,
+        front::values_mut(&mut plane, n),
+        limit,
+    ));
+    let y = plain::cut::cut(
+        k.height,
+        k.width,
+        k.levels,
+        front::values_mut(&mut plane2, n),
+        limit,
+    );
     Pair {
         coder: x,
         plain: y,
@@ -129,14 +157,16 @@ fn both_write(k: Plane, plane: &[i64], coverings: &[u8], room: usize) -> Pair {
     let mut buffer = [b'?'; 256];
     let mut buffer2 = [b'?'; 256];
     let x = outcome(sheet::write(
-        k.side,
+        k.height,
+        k.width,
         k.levels,
         plane,
         coverings,
         front::bytes_mut(&mut buffer, room),
     ));
     let y = plain_text::writing::write(
-        k.side,
+        k.height,
+        k.width,
         k.levels,
         plane,
         coverings,
@@ -163,10 +193,15 @@ pub fn write(k: Plane, room: usize) -> Pair {
 // A reading as the second implementation gives it.
 fn told(r: Reading) -> Outcome {
     match r {
-        Reading::Sheet { side, levels } => Outcome {
+        Reading::Sheet {
+            height,
+            width,
+            levels,
+        } => Outcome {
             refusal: 0,
-            a: side,
-            b: levels,
+            a: height,
+            b: width,
+            c: levels,
         },
         Reading::Refused(r) => numbered(refusals::number(r) as u32),
     }
@@ -216,6 +251,10 @@ pub fn read(k: Plane) -> Pair {
     let plane = plane_of(k);
     let coverings = [k.covering; 6];
     let mut text = [0u8; 256];
-    let end = plain_text::writing::put_sheet(k.side, k.levels, &plane, &coverings, &mut text);
+    let extent = Extent {
+        height: k.height,
+        width: k.width,
+    };
+    let end = plain_text::writing::put_sheet(extent, k.levels, &plane, &coverings, &mut text);
     read_text(front::bytes(&text, end), k.plane, k.coverings)
 }

@@ -12,6 +12,7 @@ use Rattle.integers.proofs.Index.{index-bound, column-row, column-col}
 use Rattle.integers.proofs.Tabulate.{length-tabulate, getD-tabulate}
 use Rattle.pyramid.specs.Places.{Place, BlockPlace, placesFrom, blocksFrom, planePlaces, tetroletPlaces, blockPlaces}
 use Rattle.pyramid.specs.Plane.{Fits}
+use Rattle.pyramid.specs.Sides.{Side}
 use Rattle.places.proofs.Sides.{Passed}
 use Rattle.places.specs.declared.walk.Walk.{Walk}
 use Rattle.places.specs.Walk.{entryAt, blockAt, bandCells, bandsFrom, firstBand, levelsFrom, leftBehind, leftIn, entriesLeft, blocksLeft, Inside, Stepped}
@@ -187,56 +188,74 @@ next-col x y h e = let z : (x + 1) * h ≡ x * h + h = omega arith in omega arit
 pub next-row : (x y h : ℕ) → suc (x * h + y) ≡ x * h + (y + 1)
 next-row x y h = omega arith
 
-module _ (n R : ℕ) (q : Passed n R) where
-  room : 2 * 2 ^ R ≤ n
-  room = subst (λ (m : ℕ). 2 * 2 ^ R ≤ m) (sym (q .power)) (subst (λ (m : ℕ). m ≤ 2 ^ q .log) (pow-succ' 2 R) (pow-le-pow-right {n = 2} (omega arith) (q .levels)))
+-- a side that leaves at least two, and its parts
+record Parted (R n : ℕ) : Type 0 where
+  half-some : 0 < n / 2
+  half-most : 2 * (n / 2) ≤ n
+  half-enough : 2 ^ R ≤ 2 * (n / 2)
+  quarter-some : 0 < n / 4
+  quarter-most : 2 * (n / 4) ≤ n
+  quarter-enough : 2 ^ R ≤ 2 * (n / 4)
 
-  quarter : n % 4 ≡ 0
-  quarter = go R (q .some-level) (q .fits)
+parted : (R n : ℕ) → 1 ≤ R → n % 4 ≡ 0 → (s : Side n) → R < s .log → Parted R n
+parted R n l four s f =
+    let room : 2 * 2 ^ R ≤ n = subst (λ (m : ℕ). 2 * 2 ^ R ≤ m) (sym (s .is)) (subst (λ (m : ℕ). m ≤ 2 ^ s .log) (pow-succ' 2 R) (pow-le-pow-right {n = 2} (omega arith) f)) in
+    let two : 2 ≤ 2 ^ R = pow-le-pow-right {n = 2} (omega arith) l in
+    record { half-some = omega arith; half-most = omega arith; half-enough = omega arith; quarter-some = omega arith; quarter-most = omega arith; quarter-enough = omega arith }
+
+module _ (h w R : ℕ) (q : Passed h w R) where
+  quarters : (h % 4 ≡ 0) × (w % 4 ≡ 0)
+  quarters = go R (q .some-level) (q .fits)
     where
-      go : (R : ℕ) → 1 ≤ R → Fits R n n → n % 4 ≡ 0
+      go : (R : ℕ) → 1 ≤ R → Fits R h w → (h % 4 ≡ 0) × (w % 4 ≡ 0)
       go zero l f = absurd (omega arith)
-      go (suc R) l f = f .0
+      go (suc R) l f = (f .0, f .1)
 
-  two : 2 ≤ 2 ^ R
-  two = pow-le-pow-right {n = 2} (omega arith) (q .some-level)
+  down : Parted R h
+  down = parted R h (q .some-level) (quarters .0) (q .sizes .tall) (q .sizes .fewer)
 
-  started : (b h low first : ℕ) → b ≤ 3 → low ≤ 3 → first ≤ 3 → 0 < h → 2 * h ≤ n → 2 ^ R ≤ 2 * h
-      → Inside n (record { level = 1; left = R; band = b; row = 0; col = 0; height = h; width = h; low = low; first = first })
-  started b h low first c d e p t g =
-      let a = q .levels in
-      let m = q .log-high in
-      record { row = p; col = p; band = c; tall = t; wide = t; side = q .small; level = omega arith; levels = omega arith; halves-down = g; halves-across = g; low = d; first = e }
+  across : Parted R w
+  across = parted R w (q .some-level) (quarters .1) (q .sizes .wide) (q .sizes .narrower)
 
-  pub entry-start : (b : ℕ) → b ≤ 3 → Inside n (record { level = 1; left = R; band = b; row = 0; col = 0; height = n / 2; width = n / 2; low = 0; first = 1 })
-  entry-start b c = let r = room in let t = two in let m = quarter in started b (n / 2) 0 1 c (omega arith) (omega arith) (omega arith) (omega arith) (omega arith)
+  started : (b y x low first : ℕ) → b ≤ 3 → low ≤ 3 → first ≤ 3 → 0 < y → 2 * y ≤ h → 2 ^ R ≤ 2 * y → 0 < x → 2 * x ≤ w → 2 ^ R ≤ 2 * x
+      → Inside h w (record { level = 1; left = R; band = b; row = 0; col = 0; height = y; width = x; low = low; first = first })
+  started b y x low first c d e p t g p′ t′ g′ =
+      let m = q .few in
+      record { row = p; col = p′; band = c; tall = t; wide = t′; down = q .tall; across = q .wide; level = omega arith; levels = omega arith; halves-down = g; halves-across = g′; low = d; first = e }
 
-  pub tetrolet-start : Inside n (record { level = 1; left = R; band = 1; row = 0; col = 0; height = n / 2; width = n / 2; low = 1; first = 1 })
-  tetrolet-start = let r = room in let t = two in let m = quarter in started 1 (n / 2) 1 1 (omega arith) (omega arith) (omega arith) (omega arith) (omega arith) (omega arith)
+  halves : (b low first : ℕ) → b ≤ 3 → low ≤ 3 → first ≤ 3 → Inside h w (record { level = 1; left = R; band = b; row = 0; col = 0; height = h / 2; width = w / 2; low = low; first = first })
+  halves b low first c d e = started b (h / 2) (w / 2) low first c d e (down .half-some) (down .half-most) (down .half-enough) (across .half-some) (across .half-most) (across .half-enough)
 
-  pub block-start : Inside n (record { level = 1; left = R; band = 3; row = 0; col = 0; height = n / 4; width = n / 4; low = 3; first = 3 })
-  block-start = let r = room in let t = two in let m = quarter in started 3 (n / 4) 3 3 (omega arith) (omega arith) (omega arith) (omega arith) (omega arith) (omega arith)
+  pub entry-start : (b : ℕ) → b ≤ 3 → Inside h w (record { level = 1; left = R; band = b; row = 0; col = 0; height = h / 2; width = w / 2; low = 0; first = 1 })
+  entry-start b c = halves b 0 1 c (omega arith) (omega arith)
 
-pub entries-all : (n R b : ℕ) → 1 ≤ R → b ≡ firstBand entryAt 0 1 (R - 1) → b ≤ 3
-    → entriesLeft (record { level = 1; left = R; band = b; row = 0; col = 0; height = n / 2; width = n / 2; low = 0; first = 1 }) ≡ planePlaces R n n
-entries-all n zero b p e c = absurd (omega arith)
-entries-all n (suc R) b p e c =
+  pub tetrolet-start : Inside h w (record { level = 1; left = R; band = 1; row = 0; col = 0; height = h / 2; width = w / 2; low = 1; first = 1 })
+  tetrolet-start = halves 1 1 1 (omega arith) (omega arith) (omega arith)
+
+  pub block-start : Inside h w (record { level = 1; left = R; band = 3; row = 0; col = 0; height = h / 4; width = w / 4; low = 3; first = 3 })
+  block-start =
+      started 3 (h / 4) (w / 4) 3 3 (omega arith) (omega arith) (omega arith) (down .quarter-some) (down .quarter-most) (down .quarter-enough) (across .quarter-some) (across .quarter-most) (across .quarter-enough)
+
+pub entries-all : (h w R b : ℕ) → 1 ≤ R → b ≡ firstBand entryAt 0 1 (R - 1) → b ≤ 3
+    → entriesLeft (record { level = 1; left = R; band = b; row = 0; col = 0; height = h / 2; width = w / 2; low = 0; first = 1 }) ≡ planePlaces R h w
+entries-all h w zero b p e c = absurd (omega arith)
+entries-all h w (suc R) b p e c =
     let m : suc R - 1 ≡ R = omega arith in
-    from-start entryAt 0 1 R (n / 2) (n / 2) b (e ∙ ap (firstBand entryAt 0 1) m) c ∙ entries-are 0 (suc R) n n
+    from-start entryAt 0 1 R (h / 2) (w / 2) b (e ∙ ap (firstBand entryAt 0 1) m) c ∙ entries-are 0 (suc R) h w
 
-pub tetrolets-all : (n R : ℕ) → entriesLeft (record { level = 1; left = R; band = 1; row = 0; col = 0; height = n / 2; width = n / 2; low = 1; first = 1 }) ≡ tetroletPlaces R n n
+pub tetrolets-all : (h w R : ℕ) → entriesLeft (record { level = 1; left = R; band = 1; row = 0; col = 0; height = h / 2; width = w / 2; low = 1; first = 1 }) ≡ tetroletPlaces R h w
 unfolding leftBehind placesFrom
-tetrolets-all n zero = refl
-tetrolets-all n (suc R) = from-start entryAt 1 1 R (n / 2) (n / 2) 1 (one R) (omega arith) ∙ tetrolets-are 0 (suc R) n n
+tetrolets-all h w zero = refl
+tetrolets-all h w (suc R) = from-start entryAt 1 1 R (h / 2) (w / 2) 1 (one R) (omega arith) ∙ tetrolets-are 0 (suc R) h w
   where
     one : (R : ℕ) → 1 ≡ firstBand entryAt 1 1 R
     one zero = refl
     one (suc R) = refl
 
-pub blocks-all : (n R : ℕ) → blocksLeft (record { level = 1; left = R; band = 3; row = 0; col = 0; height = n / 4; width = n / 4; low = 3; first = 3 }) ≡ blockPlaces R n n
+pub blocks-all : (h w R : ℕ) → blocksLeft (record { level = 1; left = R; band = 3; row = 0; col = 0; height = h / 4; width = w / 4; low = 3; first = 3 }) ≡ blockPlaces R h w
 unfolding leftBehind blocksFrom
-blocks-all n zero = refl
-blocks-all n (suc R) = from-start blockAt 3 3 R (n / 4) (n / 4) 3 (three R) (omega arith) ∙ blocks-are 0 (suc R) n n
+blocks-all h w zero = refl
+blocks-all h w (suc R) = from-start blockAt 3 3 R (h / 4) (w / 4) 3 (three R) (omega arith) ∙ blocks-are 0 (suc R) h w
   where
     three : (R : ℕ) → 3 ≡ firstBand blockAt 3 3 R
     three zero = refl
@@ -244,8 +263,8 @@ blocks-all n (suc R) = from-start blockAt 3 3 R (n / 4) (n / 4) 3 (three R) (ome
 
 -- ---- each way on, with what stays true of a walk
 
-module _ (n : ℕ) (k : Walk) (p : 0 < k .left) (i : Inside n k) where
-  pub to-cell : (y x : ℕ) → y < k .height → x < k .width → suc (k .col * k .height + k .row) ≡ x * k .height + y → Stepped n k (atCell k y x)
+module _ (h w : ℕ) (k : Walk) (p : 0 < k .left) (i : Inside h w k) where
+  pub to-cell : (y x : ℕ) → y < k .height → x < k .width → suc (k .col * k .height + k .row) ≡ x * k .height + y → Stepped h w k (atCell k y x)
   to-cell y x a b e =
       record {
         inside = record {
@@ -254,7 +273,8 @@ module _ (n : ℕ) (k : Walk) (p : 0 < k .left) (i : Inside n k) where
           band = i .band;
           tall = i .tall;
           wide = i .wide;
-          side = i .side;
+          down = i .down;
+          across = i .across;
           level = i .level;
           levels = i .levels;
           halves-down = i .halves-down;
@@ -267,7 +287,7 @@ module _ (n : ℕ) (k : Walk) (p : 0 < k .left) (i : Inside n k) where
       }
 
   module _ (a : k .row + 1 ≡ k .height) (b : k .col + 1 ≡ k .width) where
-    pub to-band : k .band < 3 → Stepped n k (atBand k)
+    pub to-band : k .band < 3 → Stepped h w k (atBand k)
     to-band c =
         record {
           inside = record {
@@ -276,7 +296,8 @@ module _ (n : ℕ) (k : Walk) (p : 0 < k .left) (i : Inside n k) where
             band = omega arith;
             tall = i .tall;
             wide = i .wide;
-            side = i .side;
+            down = i .down;
+            across = i .across;
             level = i .level;
             levels = i .levels;
             halves-down = i .halves-down;
@@ -288,7 +309,7 @@ module _ (n : ℕ) (k : Walk) (p : 0 < k .left) (i : Inside n k) where
           blocks = next-band blockAt k p a b c;
         }
 
-    pub to-end : k .left ≡ 1 → 3 ≤ k .band → Stepped n k (atEnd k)
+    pub to-end : k .left ≡ 1 → 3 ≤ k .band → Stepped h w k (atEnd k)
     to-end e c =
         record {
           inside = record {
@@ -297,7 +318,8 @@ module _ (n : ℕ) (k : Walk) (p : 0 < k .left) (i : Inside n k) where
             band = i .band;
             tall = i .tall;
             wide = i .wide;
-            side = i .side;
+            down = i .down;
+            across = i .across;
             level = i .level;
             levels = omega (arith, i .levels);
             halves-down = omega (arith, i .row);
@@ -327,25 +349,26 @@ module _ (n : ℕ) (k : Walk) (p : 0 < k .left) (i : Inside n k) where
             zero-le : (l : ℕ) → 0 ≤ l
             zero-le l = omega arith
 
-    pub to-level : (l b′ : ℕ) → k .left ≡ suc (suc l) → 3 ≤ k .band → b′ ≡ firstBand entryAt (k .low) (k .first) l → b′ ≤ 3 → Stepped n k (atLevel k (suc l) b′)
-    to-level l b′ e c g h =
+    pub to-level : (l b′ : ℕ) → k .left ≡ suc (suc l) → 3 ≤ k .band → b′ ≡ firstBand entryAt (k .low) (k .first) l → b′ ≤ 3 → Stepped h w k (atLevel k (suc l) b′)
+    to-level l b′ e c g s =
         let d = halved l (k .height) (subst (λ (m : ℕ). 2 ^ m ≤ 2 * k .height) e (i .halves-down)) in
-        let w = halved l (k .width) (subst (λ (m : ℕ). 2 ^ m ≤ 2 * k .width) e (i .halves-across)) in
+        let x = halved l (k .width) (subst (λ (m : ℕ). 2 ^ m ≤ 2 * k .width) e (i .halves-across)) in
         record {
           inside = record {
             row = positive l (k .height / 2) d;
-            col = positive l (k .width / 2) w;
-            band = h;
+            col = positive l (k .width / 2) x;
+            band = s;
             tall = omega (arith, i .tall);
             wide = omega (arith, i .wide);
-            side = i .side;
+            down = i .down;
+            across = i .across;
             level = omega (arith, i .level);
             levels = omega (arith, i .levels);
             halves-down = d;
-            halves-across = w;
+            halves-across = x;
             low = i .low;
             first = i .first;
           };
-          entries = next-level entryAt k l b′ e a b c g h;
-          blocks = next-level blockAt k l b′ e a b c g h;
+          entries = next-level entryAt k l b′ e a b c g s;
+          blocks = next-level blockAt k l b′ e a b c g s;
         }

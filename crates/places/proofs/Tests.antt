@@ -37,26 +37,34 @@ one-no [] n h = refl
 one-no (k ∷ []) n h = simp (ne-eqb n k h)
 one-no (k ∷ k′ ∷ ks) n h = simp (ne-eqb n k (λ e. h (inl e))) (one-no (k′ ∷ ks) n (λ z. h (inr z)))
 
-twice : (b : Bool) → (b && b) ≡ b
-twice true = refl
-twice false = refl
+-- the levels of one side
+abbrev reach : ℕ → ℕ → Bool
+reach R n = leb 1 R && leb (2 ^ suc R) n
 
-pub depth-at : (k R n : ℕ) → R ≡ suc k → leb (2 ^ suc (suc k)) n ≡ isDepth R n n
-depth-at k R n e = sym (ap (λ (m : ℕ). isDepth m n n) e ∙ rw (le-leb 1 (suc k) (omega arith)) (twice (leb (2 ^ suc (suc k)) n)))
+pub depth-at : (k R n : ℕ) → R ≡ suc k → leb (2 ^ suc (suc k)) n ≡ reach R n
+depth-at k R n e = sym (ap (λ (m : ℕ). reach m n) e ∙ rw (le-leb 1 (suc k) (omega arith)))
 
-depth-over : (R n : ℕ) → 9 ≤ R → n ≤ 512 → false ≡ isDepth R n n
+depth-over : (R n : ℕ) → 9 ≤ R → n ≤ 512 → false ≡ reach R n
 depth-over R n l h =
     let q : 10 ≤ suc R = omega arith in
     let p : 2 ^ 10 ≤ 2 ^ suc R = pow-le-pow-right {n = 2} (omega arith) q in
     sym (rw (le-leb 1 R (omega arith), lt-leb (2 ^ suc R) n (omega (arith, p))))
 
-pub depth-other : (R n : ℕ) → (1 ≤ R → R ≤ 8 → ⊥) → n ≤ 512 → false ≡ isDepth R n n
+pub depth-other : (R n : ℕ) → (1 ≤ R → R ≤ 8 → ⊥) → n ≤ 512 → false ≡ reach R n
 depth-other R n f h = go R f (decLt 8 R)
   where
-    go : (R : ℕ) → (1 ≤ R → R ≤ 8 → ⊥) → Dec (8 < R) → false ≡ isDepth R n n
+    go : (R : ℕ) → (1 ≤ R → R ≤ 8 → ⊥) → Dec (8 < R) → false ≡ reach R n
     go zero f d = refl
     go (suc R) f (yes l) = depth-over (suc R) n l h
     go (suc R) f (no l) = absurd (f (omega arith) (omega arith))
+
+-- a height and a width that both have so many levels
+pub depth-both : (R h w : ℕ) → (reach R h && reach R w) ≡ isDepth R h w
+depth-both R h w = go (leb 1 R) (leb (2 ^ suc R) h) (leb (2 ^ suc R) w)
+  where
+    go : (a b c : Bool) → ((a && b) && (a && c)) ≡ (a && (b && c))
+    go true b c = refl
+    go false b c = refl
 
 -- along a list of coverings
 pub number-next : (cs : List ℕ) (i : ℕ) → i < length cs → 1 ≤ getD cs i 0 → getD cs i 0 ≤ 117 → every isNumber (drop i cs) ≡ every isNumber (drop (i + 1) cs)
@@ -69,12 +77,15 @@ pub number-high : (cs : List ℕ) (i : ℕ) → i < length cs → 1 ≤ getD cs 
 number-high cs i l a b = rw (drop-cons cs i 0 l, le-leb 1 (getD cs i 0) a, lt-leb (getD cs i 0) 117 b)
 
 -- along the levels
-pub blocks-next : (l h : ℕ) → 0 < l → allBlocks l h h ≡ h / 4 * (h / 4) + allBlocks (l - 1) (h / 2) (h / 2)
-blocks-next zero h p = absurd (omega arith)
-blocks-next (suc l) h p = let e : suc l - 1 ≡ l = omega arith in rw e
+pub blocks-next : (l h w : ℕ) → 0 < l → allBlocks l h w ≡ w / 4 * (h / 4) + allBlocks (l - 1) (h / 2) (w / 2)
+blocks-next zero h w p = absurd (omega arith)
+blocks-next (suc l) h w p = let e : suc l - 1 ≡ l = omega arith in rw e
 
-pub blocks-bound : (h : ℕ) → h ≤ 512 → h / 4 * (h / 4) ≤ 16384
-blocks-bound h l = let a : h / 4 ≤ 128 = omega arith in mul-le-mul a a
+pub blocks-bound : (h w : ℕ) → h ≤ 512 → w ≤ 512 → w / 4 * (h / 4) ≤ 16384
+blocks-bound h w k l =
+    let a : w / 4 ≤ 128 = omega arith in
+    let b : h / 4 ≤ 128 = omega arith in
+    mul-le-mul a b
 
 -- where a band begins
 pub top-low : (h b y : ℕ) → b < 2 → y ≡ topOf h b + y

@@ -74,15 +74,16 @@ blockOf k = blockAt (k .height) (k .width) (k .level) (k .band) (k .row) (k .col
 abbrev pub indexIn : ℕ → Place → ℕ
 indexIn h p = p .across * h + p .down
 
--- A walk inside a plane of side n.
-pub record Inside (n : ℕ) (k : Walk) : Type 0 where
+-- A walk inside a plane of height h and width w.
+pub record Inside (h w : ℕ) (k : Walk) : Type 0 where
   pub row : k .row < k .height
   pub col : k .col < k .width
   pub band : k .band ≤ 3
   pub level : 1 ≤ k .level
-  pub tall : 2 * k .height ≤ n
-  pub wide : 2 * k .width ≤ n
-  pub side : n ≤ 512
+  pub tall : 2 * k .height ≤ h
+  pub wide : 2 * k .width ≤ w
+  pub down : h ≤ 512
+  pub across : w ≤ 512
   pub levels : k .level + k .left ≤ 10
   pub halves-down : 2 ^ k .left ≤ 2 * k .height
   pub halves-across : 2 ^ k .left ≤ 2 * k .width
@@ -90,7 +91,7 @@ pub record Inside (n : ℕ) (k : Walk) : Type 0 where
   pub first : k .first ≤ 3
 
 -- A step of a walk that is not at its end: the present cell is behind it.
-pub record Stepped (n : ℕ) (k k′ : Walk) : Type 0 where
-  pub inside : Inside n k′
+pub record Stepped (h w : ℕ) (k k′ : Walk) : Type 0 where
+  pub inside : Inside h w k′
   pub entries : entriesLeft k ≡ entryOf k ∷ entriesLeft k′
   pub blocks : blocksLeft k ≡ blockOf k ∷ blocksLeft k′

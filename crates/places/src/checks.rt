@@ -1,13 +1,14 @@
-// The checks of sides, levels, lengths, coverings and ranges, as tests.
+// The checks of heights, widths, levels, lengths, coverings and ranges, as tests.
 ghost use mathlib.Core.Path.{_≡_};
-ghost use mathlib.Core.Bool.{true};
-ghost use Prim.Native.Nat.{ℕ, _*_, _^_, _<_, _≤_};
+ghost use mathlib.Core.Bool.{true, _&&_};
+ghost use Prim.Native.Nat.{ℕ, suc, _*_, _^_, _<_, _≤_};
+ghost use lib.Dec.{leb};
 ghost use lib.ListN.{length};
 ghost use Rattle.integers.specs.Lists.{every};
 ghost use Rattle.refusals.specs.Refusal.{answerOf, afterCall};
 ghost use Rattle.coverings.specs.Entry.{isNumber};
 ghost use Rattle.pyramid.specs.Plane.{allBlocks};
-ghost use Rattle.pyramid.specs.Sides.{isSide, isDepth};
+ghost use Rattle.pyramid.specs.Sides.{isSide, isSides, isDepth};
 ghost use Rattle.pyramid.specs.Slices.{imageOf};
 ghost use Rattle.pyramid.specs.Ranges.{fitsRange, inRange};
 ghost use Rattle.places.specs.Sizes.{sizeRefusal};
@@ -17,7 +18,7 @@ use crate::walk::Walk;
 use refusals::Answer;
 use refusals::Refusal;
 
-// Whether n is a side.
+// Whether n is a side: a height or a width.
 pub fn is_side(n: usize) -> bool
     ensures { λ r. ⌜ r ≡ isSide n ⌝ }
 {
@@ -27,10 +28,17 @@ pub fn is_side(n: usize) -> bool
     }
 }
 
-// Whether a plane of this side has so many levels.
-pub fn is_depth(levels: usize, side: usize) -> bool
+// Whether both are sides.
+pub fn are_sides(height: usize, width: usize) -> bool
+    ensures { λ r. ⌜ r ≡ isSides height width ⌝ }
+{
+    is_side(height) & is_side(width)
+}
+
+// Whether a side can be halved so many times and leave at least 2.
+fn reaches(levels: usize, side: usize) -> bool
     requires { ⌜ side ≤ 512 ⌝ }
-    ensures { λ r. ⌜ r ≡ isDepth levels side side ⌝ }
+    ensures { λ r. ⌜ r ≡ (leb 1 levels && leb (2 ^ suc levels) side) ⌝ }
 {
     match levels {
         1 => 4 <= side,
@@ -45,31 +53,41 @@ pub fn is_depth(levels: usize, side: usize) -> bool
     }
 }
 
-// The checks 1 and 2, with which each list of a picture or a plane begins; `rest` is what the checks behind them give.
-// Two wrong answers that the contract rules out: 2 for a side of 12 with no levels; refusing side 512 with 8 levels.
-pub fn size_checks(side: usize, levels: usize) -> Answer
-    ensures { λ r. ⌜ ((rest : ℕ) → sizeRefusal side levels rest ≡ afterCall (answerOf r) rest (answerOf r)) ⌝ }
+// Whether a plane of this height and width has so many levels.
+pub fn is_depth(levels: usize, height: usize, width: usize) -> bool
+    requires { ⌜ (height ≤ 512) × (width ≤ 512) ⌝ }
+    ensures { λ r. ⌜ r ≡ isDepth levels height width ⌝ }
 {
-    if !is_side(side) {
+    reaches(levels, height) & reaches(levels, width)
+}
+
+// The checks 1 and 2, with which each list of a picture or a plane begins; `rest` is what the checks behind them give.
+// Two wrong answers that the contract rules out: 2 for 8 by 12 with no levels; accepting 64 by 8 with 3 levels.
+pub fn size_checks(height: usize, width: usize, levels: usize) -> Answer
+    ensures { λ r. ⌜ ((rest : ℕ) → sizeRefusal height width levels rest ≡ afterCall (answerOf r) rest (answerOf r)) ⌝ }
+{
+    if !are_sides(height, width) {
         return Answer::Refused(Refusal::Side);
     }
-    if !is_depth(levels, side) {
+    if !is_depth(levels, height, width) {
         return Answer::Refused(Refusal::Depth);
     }
     Answer::Done
 }
 
 // The number of blocks of all levels.
-pub fn count_blocks(levels: usize, side: usize) -> usize
-    requires { ⌜ (side ≤ 512) × (levels ≤ 8) ⌝ }
-    ensures { λ r. ⌜ (r ≡ allBlocks levels side side) × (r ≤ 131072) ⌝ }
+pub fn count_blocks(levels: usize, height: usize, width: usize) -> usize
+    requires { ⌜ (height ≤ 512) × (width ≤ 512) × (levels ≤ 8) ⌝ }
+    ensures { λ r. ⌜ (r ≡ allBlocks levels height width) × (r ≤ 131072) ⌝ }
 {
     let mut total: usize = 0;
-    let mut h = side;
+    let mut h = height;
+    let mut w = width;
     let mut left = levels;
     while 0 < left {
-        total += (h / 4) * (h / 4);
+        total += (w / 4) * (h / 4);
         h = h / 2;
+        w = w / 2;
         left -= 1;
     }
     total
@@ -129,9 +147,9 @@ pub fn fits_range(levels: u32, k: Walk, v: i64) -> bool
 }
 
 // The row of the present entry of a walk in the plane.
-fn down_of(k: Walk, side: u32) -> u32
-    requires { ⌜ Inside side k ⌝ }
-    ensures { λ r. ⌜ (r ≡ (entryOf k) .down) × (r < side) ⌝ }
+fn down_of(k: Walk, height: u32, width: u32) -> u32
+    requires { ⌜ Inside height width k ⌝ }
+    ensures { λ r. ⌜ (r ≡ (entryOf k) .down) × (r < height) ⌝ }
 {
     if 2 <= k.band {
         return k.height + k.row;
@@ -140,9 +158,9 @@ fn down_of(k: Walk, side: u32) -> u32
 }
 
 // Its column.
-fn across_of(k: Walk, side: u32) -> u32
-    requires { ⌜ Inside side k ⌝ }
-    ensures { λ r. ⌜ (r ≡ (entryOf k) .across) × (r < side) ⌝ }
+fn across_of(k: Walk, height: u32, width: u32) -> u32
+    requires { ⌜ Inside height width k ⌝ }
+    ensures { λ r. ⌜ (r ≡ (entryOf k) .across) × (r < width) ⌝ }
 {
     if k.band == 1 {
         return k.width + k.col;
@@ -154,29 +172,29 @@ fn across_of(k: Walk, side: u32) -> u32
 }
 
 // Where the present entry of a walk stands in the plane.
-pub fn index_of(k: Walk, side: u32) -> usize
-    requires { ⌜ Inside side k ⌝ }
-    ensures { λ r. ⌜ (r ≡ indexIn side (entryOf k)) × (r < side * side) ⌝ }
+pub fn index_of(k: Walk, height: u32, width: u32) -> usize
+    requires { ⌜ Inside height width k ⌝ }
+    ensures { λ r. ⌜ (r ≡ indexIn height (entryOf k)) × (r < width * height) ⌝ }
 {
-    let down = down_of(k, side);
-    let across = across_of(k, side);
-    (across * side + down) as usize
+    let down = down_of(k, height, width);
+    let across = across_of(k, height, width);
+    (across * height + down) as usize
 }
 
 // Whether each entry of a plane is in its range.
-pub fn in_range(plane: &[i64], side: u32, levels: u32) -> bool
-    requires { ⌜ (isSide side ≡ true) × (isDepth levels side side ≡ true) ⌝ }
-    requires { ⌜ length (now plane) ≡ side * side ⌝ }
-    ensures { λ r. ⌜ r ≡ inRange levels side side (imageOf side (now (plane .entry))) ⌝ }
+pub fn in_range(plane: &[i64], height: u32, width: u32, levels: u32) -> bool
+    requires { ⌜ (isSides height width ≡ true) × (isDepth levels height width ≡ true) ⌝ }
+    requires { ⌜ length (now plane) ≡ width * height ⌝ }
+    ensures { λ r. ⌜ r ≡ inRange levels height width (imageOf height (now (plane .entry))) ⌝ }
 {
-    let mut k = crate::walk::first_entry(side, levels);
+    let mut k = crate::walk::first_entry(height, width, levels);
     while 0 < k.left {
-        let i = index_of(k, side);
+        let i = index_of(k, height, width);
         let v = plane[i];
         if !fits_range(levels, k, v) {
             return false;
         }
-        k = crate::walk::step(k, side);
+        k = crate::walk::step(k, height, width);
     }
     true
 }

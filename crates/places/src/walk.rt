@@ -2,7 +2,7 @@
 ghost use mathlib.Core.Path.{_≡_};
 ghost use mathlib.Core.Bool.{true};
 ghost use Prim.Native.Nat.{ℕ, _<_};
-ghost use Rattle.pyramid.specs.Sides.{isSide, isDepth};
+ghost use Rattle.pyramid.specs.Sides.{isSides, isDepth};
 ghost use Rattle.pyramid.specs.Places.{planePlaces, tetroletPlaces, blockPlaces};
 ghost use Rattle.places.specs.Walk.{Inside, Stepped, entriesLeft, blocksLeft};
 
@@ -22,10 +22,10 @@ pub struct Walk {
     pub first: u32,
 }
 
-// The next cell. `n` is the plane's side.
-pub fn step(k: Walk, n: u32) -> Walk
-    requires { ⌜ (0 < k .left) × Inside n k ⌝ }
-    ensures { λ r. ⌜ Stepped n k r ⌝ }
+// The next cell in a plane of this height and width.
+pub fn step(k: Walk, height: u32, width: u32) -> Walk
+    requires { ⌜ (0 < k .left) × Inside height width k ⌝ }
+    ensures { λ r. ⌜ Stepped height width k r ⌝ }
 {
     if k.row + 1 < k.height {
         return Walk {
@@ -106,10 +106,10 @@ pub fn step(k: Walk, n: u32) -> Walk
 }
 
 // The walk along the entries of a plane.
-pub fn first_entry(n: u32, levels: u32) -> Walk
-    requires { ⌜ (isSide n ≡ true) × (isDepth levels n n ≡ true) ⌝ }
-    ensures { λ r. ⌜ Inside n r ⌝ }
-    ensures { λ r. ⌜ entriesLeft r ≡ planePlaces levels n n ⌝ }
+pub fn first_entry(height: u32, width: u32, levels: u32) -> Walk
+    requires { ⌜ (isSides height width ≡ true) × (isDepth levels height width ≡ true) ⌝ }
+    ensures { λ r. ⌜ Inside height width r ⌝ }
+    ensures { λ r. ⌜ entriesLeft r ≡ planePlaces levels height width ⌝ }
 {
     if levels == 1 {
         return Walk {
@@ -118,8 +118,8 @@ pub fn first_entry(n: u32, levels: u32) -> Walk
             band: 0,
             row: 0,
             col: 0,
-            height: n / 2,
-            width: n / 2,
+            height: height / 2,
+            width: width / 2,
             low: 0,
             first: 1,
         };
@@ -130,18 +130,18 @@ pub fn first_entry(n: u32, levels: u32) -> Walk
         band: 1,
         row: 0,
         col: 0,
-        height: n / 2,
-        width: n / 2,
+        height: height / 2,
+        width: width / 2,
         low: 0,
         first: 1,
     }
 }
 
 // The walk along the tetrolet entries of a plane: those of bands 1 to 3.
-pub fn first_tetrolet(n: u32, levels: u32) -> Walk
-    requires { ⌜ (isSide n ≡ true) × (isDepth levels n n ≡ true) ⌝ }
-    ensures { λ r. ⌜ Inside n r ⌝ }
-    ensures { λ r. ⌜ entriesLeft r ≡ tetroletPlaces levels n n ⌝ }
+pub fn first_tetrolet(height: u32, width: u32, levels: u32) -> Walk
+    requires { ⌜ (isSides height width ≡ true) × (isDepth levels height width ≡ true) ⌝ }
+    ensures { λ r. ⌜ Inside height width r ⌝ }
+    ensures { λ r. ⌜ entriesLeft r ≡ tetroletPlaces levels height width ⌝ }
 {
     Walk {
         level: 1,
@@ -149,18 +149,18 @@ pub fn first_tetrolet(n: u32, levels: u32) -> Walk
         band: 1,
         row: 0,
         col: 0,
-        height: n / 2,
-        width: n / 2,
+        height: height / 2,
+        width: width / 2,
         low: 1,
         first: 1,
     }
 }
 
 // The walk along the blocks.
-pub fn first_block(n: u32, levels: u32) -> Walk
-    requires { ⌜ (isSide n ≡ true) × (isDepth levels n n ≡ true) ⌝ }
-    ensures { λ r. ⌜ Inside n r ⌝ }
-    ensures { λ r. ⌜ blocksLeft r ≡ blockPlaces levels n n ⌝ }
+pub fn first_block(height: u32, width: u32, levels: u32) -> Walk
+    requires { ⌜ (isSides height width ≡ true) × (isDepth levels height width ≡ true) ⌝ }
+    ensures { λ r. ⌜ Inside height width r ⌝ }
+    ensures { λ r. ⌜ blocksLeft r ≡ blockPlaces levels height width ⌝ }
 {
     Walk {
         level: 1,
@@ -168,8 +168,8 @@ pub fn first_block(n: u32, levels: u32) -> Walk
         band: 3,
         row: 0,
         col: 0,
-        height: n / 4,
-        width: n / 4,
+        height: height / 4,
+        width: width / 4,
         low: 3,
         first: 3,
     }

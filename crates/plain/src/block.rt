@@ -9,10 +9,9 @@ use plain_frame::safe::times;
 use plain_frame::safe::total;
 use plain_frame::safe::value_at;
 
-// The square that a block is cut from: `side` is that of the whole plane, stored down columns, and the block's upper left cell is at
-// (top, left).
+// Where a block stands: `height` is that of the whole plane, stored down columns, and the block's upper left cell is at (top, left).
 pub struct Corner {
-    pub side: usize,
+    pub height: usize,
     pub top: usize,
     pub left: usize,
 }
@@ -20,7 +19,7 @@ pub struct Corner {
 pub fn cell_index(at: Corner, cell: usize) -> usize {
     let row = plus(at.top, rest(cell, 4));
     let col = plus(at.left, cell / 4);
-    plus(times(col, at.side), row)
+    plus(times(col, at.height), row)
 }
 
 // The values of a piece, as many as were met so far; four numbers, or the low-pass and the three tetrolet coefficients.
@@ -84,7 +83,7 @@ pub fn signs(q: Four) -> Four {
     }
 }
 
-fn piece_values(words: &[u8], covering: u8, piece: u8, square: &[i64], at: Corner) -> Four {
+fn piece_values(words: &[u8], covering: u8, piece: u8, image: &[i64], at: Corner) -> Four {
     let mut q = Four {
         met: 0,
         a: 0,
@@ -95,7 +94,7 @@ fn piece_values(words: &[u8], covering: u8, piece: u8, square: &[i64], at: Corne
     let mut cell: usize = 0;
     while cell < 16 {
         if piece_at(words, covering, cell) == piece {
-            q = with(q, value_at(square, cell_index(at, cell)));
+            q = with(q, value_at(image, cell_index(at, cell)));
         }
         cell += 1;
     }
@@ -103,20 +102,20 @@ fn piece_values(words: &[u8], covering: u8, piece: u8, square: &[i64], at: Corne
 }
 
 // The low-pass and the three tetrolet coefficients of a piece.
-pub fn piece_result(words: &[u8], covering: u8, piece: u8, square: &[i64], at: Corner) -> Four {
-    signs(piece_values(words, covering, piece, square, at))
+pub fn piece_result(words: &[u8], covering: u8, piece: u8, image: &[i64], at: Corner) -> Four {
+    signs(piece_values(words, covering, piece, image, at))
 }
 
-fn piece_cost(words: &[u8], covering: u8, piece: u8, square: &[i64], at: Corner) -> u64 {
-    let w = piece_result(words, covering, piece, square, at);
+fn piece_cost(words: &[u8], covering: u8, piece: u8, image: &[i64], at: Corner) -> u64 {
+    let w = piece_result(words, covering, piece, image, at);
     total(size(w.b), total(size(w.c), size(w.d)))
 }
 
-pub fn cost(words: &[u8], covering: u8, square: &[i64], at: Corner) -> u64 {
-    let zero = piece_cost(words, covering, 0, square, at);
-    let one = piece_cost(words, covering, 1, square, at);
-    let two = piece_cost(words, covering, 2, square, at);
-    let three = piece_cost(words, covering, 3, square, at);
+pub fn cost(words: &[u8], covering: u8, image: &[i64], at: Corner) -> u64 {
+    let zero = piece_cost(words, covering, 0, image, at);
+    let one = piece_cost(words, covering, 1, image, at);
+    let two = piece_cost(words, covering, 2, image, at);
+    let three = piece_cost(words, covering, 3, image, at);
     total(total(zero, one), total(two, three))
 }
 

@@ -1,11 +1,12 @@
 // Keep and cut.
+use plain_frame::frame::Extent;
 use plain_frame::frame::all_in_range;
 use plain_frame::frame::area;
-use plain_frame::frame::band_side;
+use plain_frame::frame::band_of;
 use plain_frame::frame::index_of;
 use plain_frame::frame::place;
 use plain_frame::frame::power;
-use plain_frame::frame::side_and_depth;
+use plain_frame::frame::size_refusal;
 use plain_frame::outcome::Outcome;
 use plain_frame::outcome::accepted;
 use plain_frame::outcome::refused;
@@ -16,29 +17,29 @@ use plain_frame::safe::size;
 use plain_frame::safe::times;
 use plain_frame::safe::value_at;
 
-fn checked(side: usize, levels: usize, plane: &[i64]) -> u32 {
-    let bad = side_and_depth(side, levels);
+fn checked(extent: Extent, levels: usize, plane: &[i64]) -> u32 {
+    let bad = size_refusal(extent, levels);
     if bad != 0 {
         return bad;
     }
-    if plane.len() != area(side) {
+    if plane.len() != area(extent) {
         return 3;
     }
-    if !all_in_range(side, levels, plane) {
+    if !all_in_range(extent, levels, plane) {
         return 6;
     }
     0
 }
 
 // Tetrolet entries that are not zero.
-fn count(side: usize, levels: usize, plane: &[i64]) -> usize {
-    let end = area(side);
+fn count(extent: Extent, levels: usize, plane: &[i64]) -> usize {
+    let end = area(extent);
     let mut found: usize = 0;
     let mut n: usize = 0;
     while n < end {
-        let p = place(side, levels, n);
+        let p = place(extent, levels, n);
         if 0 < p.band {
-            if value_at(plane, index_of(side, p)) != 0 {
+            if value_at(plane, index_of(extent, p)) != 0 {
                 found = plus(found, 1);
             }
         }
@@ -52,14 +53,14 @@ fn rank(value: i64, level: usize, levels: usize) -> usize {
 }
 
 // Puts 0 for the entry of the lowest rank; of several, for the last in plane order.
-fn drop_weakest(side: usize, levels: usize, plane: &mut [i64]) {
-    let end = area(side);
+fn drop_weakest(extent: Extent, levels: usize, plane: &mut [i64]) {
+    let end = area(extent);
     let mut lowest: usize = 0xFFFFFFFFFFFFFFFF;
     let mut at: usize = end;
     let mut n: usize = 0;
     while n < end {
-        let p = place(side, levels, n);
-        let index = index_of(side, p);
+        let p = place(extent, levels, n);
+        let index = index_of(extent, p);
         let value = value_at(plane, index);
         if 0 < p.band {
             if value != 0 {
@@ -76,60 +77,74 @@ fn drop_weakest(side: usize, levels: usize, plane: &mut [i64]) {
 }
 
 // The number of tetrolet entries: the largest quota.
-pub fn most_entries(side: usize, levels: usize) -> usize {
-    minus(area(side), area(band_side(side, levels)))
+pub fn most_entries(extent: Extent, levels: usize) -> usize {
+    minus(area(extent), area(band_of(extent, levels)))
 }
 
-fn drop_to(side: usize, levels: usize, plane: &mut [i64], found: usize, quota: usize) -> usize {
+fn drop_to(extent: Extent, levels: usize, plane: &mut [i64], found: usize, quota: usize) -> usize {
     let mut left = found;
     while quota < left {
-        drop_weakest(side, levels, plane);
+        drop_weakest(extent, levels, plane);
         left -= 1;
     }
     left
 }
 
 // Keeps the `quota` entries of highest rank; gives the number left.
-pub fn keep(side: usize, levels: usize, plane: &mut [i64], quota: u64) -> Outcome {
-    let bad = checked(side, levels, plane);
+pub fn keep(height: usize, width: usize, levels: usize, plane: &mut [i64], quota: u64) -> Outcome {
+    let extent = Extent {
+        height: height,
+        width: width,
+    };
+    let bad = checked(extent, levels, plane);
     if bad != 0 {
         return refused(bad);
     }
-    if (most_entries(side, levels) as u64) < quota {
+    if (most_entries(extent, levels) as u64) < quota {
         return refused(7);
     }
-    let found = count(side, levels, plane);
-    accepted(drop_to(side, levels, plane, found, quota as usize), 0)
+    let found = count(extent, levels, plane);
+    accepted(drop_to(extent, levels, plane, found, quota as usize), 0, 0)
 }
 
-fn cut_one(side: usize, levels: usize, plane: &mut [i64], threshold: usize, n: usize) {
-    let p = place(side, levels, n);
+fn cut_one(extent: Extent, levels: usize, plane: &mut [i64], threshold: usize, n: usize) {
+    let p = place(extent, levels, n);
     if 0 < p.band {
-        let index = index_of(side, p);
+        let index = index_of(extent, p);
         if (size(value_at(plane, index)) as usize) < times(threshold, power(p.level)) {
             put_value(plane, index, 0);
         }
     }
 }
 
-fn cut_all(side: usize, levels: usize, plane: &mut [i64], threshold: usize) {
-    let end = area(side);
+fn cut_all(extent: Extent, levels: usize, plane: &mut [i64], threshold: usize) {
+    let end = area(extent);
     let mut n: usize = 0;
     while n < end {
-        cut_one(side, levels, plane, threshold, n);
+        cut_one(extent, levels, plane, threshold, n);
         n += 1;
     }
 }
 
 // Cuts the entries below the threshold; gives the number left.
-pub fn cut(side: usize, levels: usize, plane: &mut [i64], threshold: u64) -> Outcome {
-    let bad = checked(side, levels, plane);
+pub fn cut(
+    height: usize,
+    width: usize,
+    levels: usize,
+    plane: &mut [i64],
+    threshold: u64,
+) -> Outcome {
+    let extent = Extent {
+        height: height,
+        width: width,
+    };
+    let bad = checked(extent, levels, plane);
     if bad != 0 {
         return refused(bad);
     }
     if 1000000 < threshold {
         return refused(8);
     }
-    cut_all(side, levels, plane, threshold as usize);
-    accepted(count(side, levels, plane), 0)
+    cut_all(extent, levels, plane, threshold as usize);
+    accepted(count(extent, levels, plane), 0, 0)
 }

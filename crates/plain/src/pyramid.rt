@@ -8,9 +8,10 @@ use crate::block::label;
 use crate::block::piece_result;
 use crate::block::signs;
 use crate::tiles::piece_at;
+use plain_frame::frame::Extent;
 use plain_frame::frame::Spot;
 use plain_frame::frame::area;
-use plain_frame::frame::band_side;
+use plain_frame::frame::band_of;
 use plain_frame::frame::block_in_level;
 use plain_frame::frame::blocks_before;
 use plain_frame::frame::contents;
@@ -33,13 +34,13 @@ use plain_frame::safe::size;
 use plain_frame::safe::times;
 use plain_frame::safe::value_at;
 
-// Copies the upper left square that a level is about, the whole plane for level 1.
-fn copy_square(from: &[i64], to: &mut [i64], side: usize, level: usize) {
-    let n = band_side(side, minus(level, 1));
+// Copies the upper left part that a level is about, the whole plane for level 1.
+fn copy_image(from: &[i64], to: &mut [i64], extent: Extent, level: usize) {
+    let n = band_of(extent, minus(level, 1));
     let end = area(n);
     let mut i: usize = 0;
     while i < end {
-        let j = plus(times(over(i, n), side), rest(i, n));
+        let j = plus(times(over(i, n.height), extent.height), rest(i, n.height));
         put_value(to, j, value_at(from, j));
         i += 1;
     }
@@ -67,18 +68,18 @@ fn load(samples: &[u16], plane: &mut [i64]) {
 // The least cost; then the most often chosen in the blocks of this level before; then the lowest number.
 fn choose(
     words: &[u8],
-    square: &[i64],
+    image: &[i64],
     at: Corner,
     coverings: &[u8],
     start: usize,
     end: usize,
 ) -> u8 {
     let mut best: u8 = 1;
-    let mut least = cost(words, 1, square, at);
+    let mut least = cost(words, 1, image, at);
     let mut most = times_chosen(coverings, start, end, 1);
     let mut covering: u8 = 2;
     while covering < 118 {
-        let now = cost(words, covering, square, at);
+        let now = cost(words, covering, image, at);
         let chosen = times_chosen(coverings, start, end, covering);
         if now < least {
             best = covering;
@@ -108,61 +109,61 @@ fn result_col(block_col: usize, label: u32) -> usize {
     plus(times(2, block_col), right as usize)
 }
 
-fn put_at(plane: &mut [i64], side: usize, row: usize, col: usize, v: i64) {
-    put_value(plane, plus(times(col, side), row), v);
+fn put_at(plane: &mut [i64], height: usize, row: usize, col: usize, v: i64) {
+    put_value(plane, plus(times(col, height), row), v);
 }
 
-fn get_at(plane: &[i64], side: usize, row: usize, col: usize) -> i64 {
-    value_at(plane, plus(times(col, side), row))
+fn get_at(plane: &[i64], height: usize, row: usize, col: usize) -> i64 {
+    value_at(plane, plus(times(col, height), row))
 }
 
-fn put_four(plane: &mut [i64], side: usize, half: usize, row: usize, col: usize, w: Four) {
-    let below = plus(row, half);
-    let right = plus(col, half);
-    put_at(plane, side, row, col, w.a);
-    put_at(plane, side, row, right, w.b);
-    put_at(plane, side, below, col, w.c);
-    put_at(plane, side, below, right, w.d);
+fn put_four(plane: &mut [i64], height: usize, half: Extent, row: usize, col: usize, w: Four) {
+    let below = plus(row, half.height);
+    let right = plus(col, half.width);
+    put_at(plane, height, row, col, w.a);
+    put_at(plane, height, row, right, w.b);
+    put_at(plane, height, below, col, w.c);
+    put_at(plane, height, below, right, w.d);
 }
 
-fn get_four(plane: &[i64], side: usize, half: usize, row: usize, col: usize) -> Four {
-    let below = plus(row, half);
-    let right = plus(col, half);
+fn get_four(plane: &[i64], height: usize, half: Extent, row: usize, col: usize) -> Four {
+    let below = plus(row, half.height);
+    let right = plus(col, half.width);
     Four {
         met: 4,
-        a: get_at(plane, side, row, col),
-        b: get_at(plane, side, row, right),
-        c: get_at(plane, side, below, col),
-        d: get_at(plane, side, below, right),
+        a: get_at(plane, height, row, col),
+        b: get_at(plane, height, row, right),
+        c: get_at(plane, height, below, col),
+        d: get_at(plane, height, below, right),
     }
 }
 
 // The corner in the plane of the block at this place.
-fn corner(side: usize, p: Spot) -> Corner {
+fn corner(height: usize, p: Spot) -> Corner {
     Corner {
-        side: side,
+        height: height,
         top: times(4, p.row),
         left: times(4, p.col),
     }
 }
 
 // Stores the results of a block's piece with this label.
-fn put_result(plane: &mut [i64], side: usize, p: Spot, s: u32, w: Four) {
+fn put_result(plane: &mut [i64], extent: Extent, p: Spot, s: u32, w: Four) {
     put_four(
         plane,
-        side,
-        band_side(side, p.level),
+        extent.height,
+        band_of(extent, p.level),
         result_row(p.row, s),
         result_col(p.col, s),
         w,
     );
 }
 
-fn get_result(plane: &[i64], side: usize, p: Spot, s: u32) -> Four {
+fn get_result(plane: &[i64], extent: Extent, p: Spot, s: u32) -> Four {
     get_four(
         plane,
-        side,
-        band_side(side, p.level),
+        extent.height,
+        band_of(extent, p.level),
         result_row(p.row, s),
         result_col(p.col, s),
     )
@@ -171,35 +172,42 @@ fn get_result(plane: &[i64], side: usize, p: Spot, s: u32) -> Four {
 fn split_pieces(
     words: &[u8],
     covering: u8,
-    square: &[i64],
+    image: &[i64],
     plane: &mut [i64],
-    side: usize,
+    extent: Extent,
     p: Spot,
 ) {
     let labels = best_labels(words, covering);
     let mut piece: u8 = 0;
     while piece < 4 {
-        let w = piece_result(words, covering, piece, square, corner(side, p));
-        put_result(plane, side, p, label(labels, piece), w);
+        let w = piece_result(words, covering, piece, image, corner(extent.height, p));
+        put_result(plane, extent, p, label(labels, piece), w);
         piece += 1;
     }
 }
 
 fn split_block(
     words: &[u8],
-    square: &[i64],
+    image: &[i64],
     plane: &mut [i64],
     coverings: &mut [u8],
-    side: usize,
+    extent: Extent,
     level: usize,
     n: usize,
 ) {
-    let p = block_in_level(side, level, n);
-    let start = blocks_before(side, level);
+    let p = block_in_level(extent, level, n);
+    let start = blocks_before(extent, level);
     let now = plus(start, n);
-    let covering = choose(words, square, corner(side, p), coverings, start, now);
+    let covering = choose(
+        words,
+        image,
+        corner(extent.height, p),
+        coverings,
+        start,
+        now,
+    );
     put_byte(coverings, now, covering);
-    split_pieces(words, covering, square, plane, side, p);
+    split_pieces(words, covering, image, plane, extent, p);
 }
 
 fn split_level(
@@ -207,21 +215,21 @@ fn split_level(
     plane: &mut [i64],
     scratch: &mut [i64],
     coverings: &mut [u8],
-    side: usize,
+    extent: Extent,
     level: usize,
 ) {
-    copy_square(plane, scratch, side, level);
-    let blocks = level_blocks(side, level);
+    copy_image(plane, scratch, extent, level);
+    let blocks = level_blocks(extent, level);
     let mut n: usize = 0;
     while n < blocks {
-        split_block(words, scratch, plane, coverings, side, level, n);
+        split_block(words, scratch, plane, coverings, extent, level, n);
         n += 1;
     }
 }
 
 fn split(
     words: &[u8],
-    side: usize,
+    extent: Extent,
     levels: usize,
     plane: &mut [i64],
     scratch: &mut [i64],
@@ -230,21 +238,21 @@ fn split(
     let mut level: usize = 0;
     while level < levels {
         level += 1;
-        split_level(words, plane, scratch, coverings, side, level);
+        split_level(words, plane, scratch, coverings, extent, level);
     }
     clear(scratch);
 }
 
 // Checks 1 to 4; the last three are the lengths of their slices.
 fn decompose_refusal(
-    side: usize,
+    extent: Extent,
     levels: usize,
     samples: &[u16],
     plane: usize,
     coverings: usize,
     scratch: usize,
 ) -> u32 {
-    let bad = lengths(side, levels, plane, coverings);
+    let bad = lengths(extent, levels, plane, coverings);
     if bad != 0 {
         return bad;
     }
@@ -263,15 +271,20 @@ fn decompose_refusal(
 // Decomposes a picture. `words` are those of `list_words`.
 pub fn decompose(
     words: &[u8],
-    side: usize,
+    height: usize,
+    width: usize,
     levels: usize,
     samples: &[u16],
     plane: &mut [i64],
     coverings: &mut [u8],
     scratch: &mut [i64],
 ) -> u32 {
+    let extent = Extent {
+        height: height,
+        width: width,
+    };
     let bad = decompose_refusal(
-        side,
+        extent,
         levels,
         samples,
         plane.len(),
@@ -282,7 +295,7 @@ pub fn decompose(
         return bad;
     }
     load(samples, plane);
-    split(words, side, levels, plane, scratch, coverings);
+    split(words, extent, levels, plane, scratch, coverings);
     0
 }
 
@@ -340,13 +353,13 @@ fn join_cell(
     covering: u8,
     labels: u32,
     cell: usize,
-    square: &[i64],
-    side: usize,
+    image: &[i64],
+    extent: Extent,
     levels: usize,
     p: Spot,
 ) -> i64 {
     let s = label(labels, piece_at(words, covering, cell));
-    let w = get_result(square, side, p, s);
+    let w = get_result(image, extent, p, s);
     let q = signs(weighted_four(w, minus(levels, p.level)));
     pick(q, earlier(words, covering, cell))
 }
@@ -354,17 +367,17 @@ fn join_cell(
 fn join_cells(
     words: &[u8],
     covering: u8,
-    square: &[i64],
+    image: &[i64],
     plane: &mut [i64],
-    side: usize,
+    extent: Extent,
     levels: usize,
     p: Spot,
 ) {
     let labels = best_labels(words, covering);
     let mut cell: usize = 0;
     while cell < 16 {
-        let v = join_cell(words, covering, labels, cell, square, side, levels, p);
-        put_value(plane, cell_index(corner(side, p), cell), v);
+        let v = join_cell(words, covering, labels, cell, image, extent, levels, p);
+        put_value(plane, cell_index(corner(extent.height, p), cell), v);
         cell += 1;
     }
 }
@@ -372,16 +385,16 @@ fn join_cells(
 fn join_block(
     words: &[u8],
     coverings: &[u8],
-    square: &[i64],
+    image: &[i64],
     plane: &mut [i64],
-    side: usize,
+    extent: Extent,
     levels: usize,
     level: usize,
     n: usize,
 ) {
-    let covering = byte_at(coverings, plus(blocks_before(side, level), n));
-    let p = block_in_level(side, level, n);
-    join_cells(words, covering, square, plane, side, levels, p);
+    let covering = byte_at(coverings, plus(blocks_before(extent, level), n));
+    let p = block_in_level(extent, level, n);
+    join_cells(words, covering, image, plane, extent, levels, p);
 }
 
 fn join_level(
@@ -389,15 +402,15 @@ fn join_level(
     coverings: &[u8],
     plane: &mut [i64],
     scratch: &mut [i64],
-    side: usize,
+    extent: Extent,
     levels: usize,
     level: usize,
 ) {
-    copy_square(plane, scratch, side, level);
-    let blocks = level_blocks(side, level);
+    copy_image(plane, scratch, extent, level);
+    let blocks = level_blocks(extent, level);
     let mut n: usize = 0;
     while n < blocks {
-        join_block(words, coverings, scratch, plane, side, levels, level, n);
+        join_block(words, coverings, scratch, plane, extent, levels, level, n);
         n += 1;
     }
 }
@@ -407,7 +420,7 @@ fn join(
     coverings: &[u8],
     plane: &mut [i64],
     scratch: &mut [i64],
-    side: usize,
+    extent: Extent,
     levels: usize,
 ) {
     let mut done: usize = 0;
@@ -417,7 +430,7 @@ fn join(
             coverings,
             plane,
             scratch,
-            side,
+            extent,
             levels,
             minus(levels, done),
         );
@@ -447,7 +460,7 @@ fn round_all(numerators: &[i64], samples: &mut [u16], levels: usize) {
 
 // Checks 1, 2, 3, 5 and 6; the last three are the lengths of their slices.
 fn restore_refusal(
-    side: usize,
+    extent: Extent,
     levels: usize,
     plane: &[i64],
     coverings: &[u8],
@@ -456,7 +469,7 @@ fn restore_refusal(
     samples: usize,
 ) -> u32 {
     let n = plane.len();
-    let bad = lengths(side, levels, n, coverings.len());
+    let bad = lengths(extent, levels, n, coverings.len());
     if bad != 0 {
         return bad;
     }
@@ -469,13 +482,14 @@ fn restore_refusal(
     if samples != n {
         return 3;
     }
-    contents(side, levels, plane, coverings)
+    contents(extent, levels, plane, coverings)
 }
 
 // Restores a picture from its plane. `words` are those of `list_words`.
 pub fn restore(
     words: &[u8],
-    side: usize,
+    height: usize,
+    width: usize,
     levels: usize,
     plane: &[i64],
     coverings: &[u8],
@@ -483,8 +497,12 @@ pub fn restore(
     numerators: &mut [i64],
     samples: &mut [u16],
 ) -> u32 {
+    let extent = Extent {
+        height: height,
+        width: width,
+    };
     let bad = restore_refusal(
-        side,
+        extent,
         levels,
         plane,
         coverings,
@@ -495,8 +513,8 @@ pub fn restore(
     if bad != 0 {
         return bad;
     }
-    copy_square(plane, numerators, side, 1);
-    join(words, coverings, numerators, scratch, side, levels);
+    copy_image(plane, numerators, extent, 1);
+    join(words, coverings, numerators, scratch, extent, levels);
     round_all(numerators, samples, levels);
     0
 }

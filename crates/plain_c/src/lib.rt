@@ -24,20 +24,31 @@ pub extern "C" fn plain_word(words: &[u8], covering: u8, word: &mut [u8]) -> u32
 #[no_mangle]
 pub extern "C" fn plain_decompose(
     words: &[u8],
-    side: usize,
+    height: usize,
+    width: usize,
     levels: usize,
     samples: &[u16],
     plane: &mut [i64],
     coverings: &mut [u8],
     scratch: &mut [i64],
 ) -> u32 {
-    plain::pyramid::decompose(words, side, levels, samples, plane, coverings, scratch)
+    plain::pyramid::decompose(
+        words,
+        height,
+        width,
+        levels,
+        samples,
+        plane,
+        coverings,
+        scratch,
+    )
 }
 
 #[no_mangle]
 pub extern "C" fn plain_restore(
     words: &[u8],
-    side: usize,
+    height: usize,
+    width: usize,
     levels: usize,
     plane: &[i64],
     coverings: &[u8],
@@ -47,7 +58,8 @@ pub extern "C" fn plain_restore(
 ) -> u32 {
     plain::pyramid::restore(
         words,
-        side,
+        height,
+        width,
         levels,
         plane,
         coverings,
@@ -59,29 +71,32 @@ pub extern "C" fn plain_restore(
 
 #[no_mangle]
 pub extern "C" fn plain_keep(
-    side: usize,
+    height: usize,
+    width: usize,
     levels: usize,
     plane: &mut [i64],
     quota: u64,
     left: &mut usize,
 ) -> u32 {
-    told(plain::cut::keep(side, levels, plane, quota), left)
+    told(plain::cut::keep(height, width, levels, plane, quota), left)
 }
 
 #[no_mangle]
 pub extern "C" fn plain_threshold(
-    side: usize,
+    height: usize,
+    width: usize,
     levels: usize,
     plane: &mut [i64],
     limit: u64,
     left: &mut usize,
 ) -> u32 {
-    told(plain::cut::cut(side, levels, plane, limit), left)
+    told(plain::cut::cut(height, width, levels, plane, limit), left)
 }
 
 #[no_mangle]
 pub extern "C" fn plain_write(
-    side: usize,
+    height: usize,
+    width: usize,
     levels: usize,
     plane: &[i64],
     coverings: &[u8],
@@ -89,7 +104,7 @@ pub extern "C" fn plain_write(
     length: &mut usize,
 ) -> u32 {
     told(
-        plain_text::writing::write(side, levels, plane, coverings, buffer),
+        plain_text::writing::write(height, width, levels, plane, coverings, buffer),
         length,
     )
 }
@@ -99,14 +114,16 @@ pub extern "C" fn plain_read(
     text: &[u8],
     plane: &mut [i64],
     coverings: &mut [u8],
-    side: &mut usize,
+    height: &mut usize,
+    width: &mut usize,
     levels: &mut usize,
 ) -> u32 {
     let o = plain_text::reading::read(text, plane, coverings);
     if o.refusal == 0 {
-        *levels = o.b;
+        *width = o.b;
+        *levels = o.c;
     }
-    told(o, side)
+    told(o, height)
 }
 
 #[no_mangle]

@@ -1,12 +1,13 @@
-// The cutter of the plain second implementation: text in, text out, for sides up to 32. It shares no code, table or definition with the coder, and is
-// proved to be safe and to end, and nothing more.
+// The cutter of the plain second implementation: text in, text out, for heights and widths up to 32. It shares no code, table or definition with the
+// coder, and is proved to be safe and to end, and nothing more.
 use plain::cut::keep;
 use plain::cut::most_entries;
 use plain::pyramid::decompose;
 use plain::tiles::list_words;
+use plain_frame::frame::Extent;
 use plain_frame::frame::all_blocks;
 use plain_frame::frame::area;
-use plain_frame::frame::side_and_depth;
+use plain_frame::frame::size_refusal;
 use plain_frame::safe::over;
 use plain_frame::safe::plus;
 use plain_frame::safe::put_sample;
@@ -26,7 +27,7 @@ use plain_text::writing::put_text;
 // What the header asks for, or its refusal; and the place after the header.
 struct Task {
     refusal: u32,
-    side: usize,
+    extent: Extent,
     levels: usize,
     quota: usize,
     next: usize,
@@ -35,7 +36,10 @@ struct Task {
 fn no_task() -> Task {
     Task {
         refusal: 9,
-        side: 0,
+        extent: Extent {
+            height: 0,
+            width: 0,
+        },
         levels: 0,
         quota: 0,
         next: 0,
@@ -43,12 +47,15 @@ fn no_task() -> Task {
 }
 
 // Checks 1, 12 and 2.
-fn side_refusal(side: usize, levels: usize) -> u32 {
-    let bad = side_and_depth(side, levels);
+fn header_refusal(extent: Extent, levels: usize) -> u32 {
+    let bad = size_refusal(extent, levels);
     if bad == 1 {
         return 1;
     }
-    if 32 < side {
+    if 32 < extent.height {
+        return 12;
+    }
+    if 32 < extent.width {
         return 12;
     }
     bad
@@ -58,18 +65,21 @@ fn header(text: &[u8]) -> Task {
     if 65536 < text.len() {
         return no_task();
     }
-    if !stands(text, 0, b"side levels quota\n") {
+    if !stands(text, 0, b"height width levels quota\n") {
         return no_task();
     }
-    let l = read_line(text, 18, 3);
+    let l = read_line(text, 26, 4);
     if !l.good {
         return no_task();
     }
-    let side = natural(l.c);
+    let extent = Extent {
+        height: natural(l.b),
+        width: natural(l.c),
+    };
     let levels = natural(l.d);
     Task {
-        refusal: side_refusal(side, levels),
-        side: side,
+        refusal: header_refusal(extent, levels),
+        extent: extent,
         levels: levels,
         quota: natural(l.e),
         next: l.next,
@@ -83,12 +93,12 @@ struct Rows {
     next: usize,
 }
 
-// The n-th value, counted along rows; samples are stored down columns.
-fn one_value(text: &[u8], rows: Rows, side: usize, n: usize, samples: &mut [u16]) -> Rows {
-    let row = over(n, side);
-    let col = rest(n, side);
-    let v = followed(text, number(text, rows.next), byte_after(col, side));
-    put_sample(samples, plus(times(col, side), row), size(v.value));
+// The n-th value, counted along rows of `width` values; samples are stored down columns of `height`.
+fn one_value(text: &[u8], rows: Rows, extent: Extent, n: usize, samples: &mut [u16]) -> Rows {
+    let row = over(n, extent.width);
+    let col = rest(n, extent.width);
+    let v = followed(text, number(text, rows.next), byte_after(col, extent.width));
+    put_sample(samples, plus(times(col, extent.height), row), size(v.value));
     Rows {
         good: v.good,
         high: if v.value > 4095 { true } else { rows.high },
@@ -96,16 +106,16 @@ fn one_value(text: &[u8], rows: Rows, side: usize, n: usize, samples: &mut [u16]
     }
 }
 
-fn read_rows(text: &[u8], at: usize, side: usize, samples: &mut [u16]) -> Rows {
+fn read_rows(text: &[u8], at: usize, extent: Extent, samples: &mut [u16]) -> Rows {
     let mut rows = Rows {
         good: true,
         high: false,
         next: at,
     };
-    let end = area(side);
+    let end = area(extent);
     let mut n: usize = 0;
     while n < end {
-        rows = one_value(text, rows, side, n, samples);
+        rows = one_value(text, rows, extent, n, samples);
         if !rows.good {
             return rows;
         }
@@ -119,7 +129,7 @@ fn read_samples(text: &[u8], t: Task, samples: &mut [u16]) -> u32 {
     if !stands(text, t.next, b"samples\n") {
         return 9;
     }
-    let rows = read_rows(text, plus(t.next, 8), t.side, samples);
+    let rows = read_rows(text, plus(t.next, 8), t.extent, samples);
     if !rows.good {
         return 9;
     }
@@ -129,7 +139,7 @@ fn read_samples(text: &[u8], t: Task, samples: &mut [u16]) -> u32 {
     if rows.high {
         return 4;
     }
-    if most_entries(t.side, t.levels) < t.quota {
+    if most_entries(t.extent, t.levels) < t.quota {
         return 7;
     }
     0
@@ -141,7 +151,7 @@ fn put_refusal(number: u32, out: &mut [u8]) -> usize {
 }
 
 fn cut_picture(
-    side: usize,
+    extent: Extent,
     levels: usize,
     quota: usize,
     samples: &[u16],
@@ -152,15 +162,24 @@ fn cut_picture(
 ) -> usize {
     let mut words = [0u8; 1872];
     list_words(&mut words);
-    decompose(&words, side, levels, samples, plane, coverings, scratch);
-    keep(side, levels, plane, quota as u64);
-    put_sheet(side, levels, plane, coverings, out)
+    decompose(
+        &words,
+        extent.height,
+        extent.width,
+        levels,
+        samples,
+        plane,
+        coverings,
+        scratch,
+    );
+    keep(extent.height, extent.width, levels, plane, quota as u64);
+    put_sheet(extent, levels, plane, coverings, out)
 }
 
-// The same on slices with room to spare, of which the parts that the side and the depth ask for are lent.
+// The same on slices with room to spare, of which the parts that the sizes and the depth ask for are lent.
 fn cut_parts(t: Task, samples: &[u16], out: &mut [u8]) -> usize {
-    let entries = area(t.side);
-    let blocks = all_blocks(t.side, t.levels);
+    let entries = area(t.extent);
+    let blocks = all_blocks(t.extent, t.levels);
     if samples.len() < entries {
         return 0;
     }
@@ -174,7 +193,7 @@ fn cut_parts(t: Task, samples: &[u16], out: &mut [u8]) -> usize {
     let mut scratch = [0i64; 1024];
     let mut coverings = [0u8; 128];
     cut_picture(
-        t.side,
+        t.extent,
         t.levels,
         t.quota,
         &samples[..entries],
@@ -185,7 +204,7 @@ fn cut_parts(t: Task, samples: &[u16], out: &mut [u8]) -> usize {
     )
 }
 
-// Runs the cutter on its input; gives the length of what it prints. `out` has room for the longest sheet of side 32, 16,144 bytes.
+// Runs the cutter on its input; gives the length of what it prints. `out` has room for the longest sheet of 32 by 32, 16,155 bytes.
 pub fn cutter(text: &[u8], out: &mut [u8]) -> usize {
     let t = header(text);
     if t.refusal != 0 {

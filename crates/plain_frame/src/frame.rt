@@ -1,4 +1,4 @@
-// Sides, depths, places of the plane and of the blocks, and the ranges of the plane's entries.
+// Heights, widths and depths, places of the plane and of the blocks, and the ranges of the plane's entries.
 use crate::safe::byte_at;
 use crate::safe::minus;
 use crate::safe::over;
@@ -8,10 +8,17 @@ use crate::safe::size;
 use crate::safe::times;
 use crate::safe::value_at;
 
+// The height and the width of a picture, or of a part of it.
+pub struct Extent {
+    pub height: usize,
+    pub width: usize,
+}
+
 pub fn power(n: usize) -> usize {
     if n < 32 { 1 << n } else { 0 }
 }
 
+// A height or a width.
 fn is_side(side: usize) -> bool {
     if side == 4 {
         return true;
@@ -37,67 +44,81 @@ fn is_side(side: usize) -> bool {
     side == 512
 }
 
-// At the deepest level the square has side 4: 2^(levels + 1) is at most the side.
-fn is_depth(side: usize, levels: usize) -> bool {
+fn smaller(extent: Extent) -> usize {
+    if extent.height < extent.width {
+        extent.height
+    } else {
+        extent.width
+    }
+}
+
+// The image that the deepest level splits is at least 4 by 4: 2^(levels + 1) is at most the smaller of height and width.
+fn is_depth(extent: Extent, levels: usize) -> bool {
     if levels < 1 {
         return false;
     }
     if 8 < levels {
         return false;
     }
-    power(plus(levels, 1)) <= side
+    power(plus(levels, 1)) <= smaller(extent)
 }
 
 // Checks 1 and 2.
-pub fn side_and_depth(side: usize, levels: usize) -> u32 {
-    if !is_side(side) {
+pub fn size_refusal(extent: Extent, levels: usize) -> u32 {
+    if !is_side(extent.height) {
         return 1;
     }
-    if !is_depth(side, levels) {
+    if !is_side(extent.width) {
+        return 1;
+    }
+    if !is_depth(extent, levels) {
         return 2;
     }
     0
 }
 
-pub fn area(side: usize) -> usize {
-    times(side, side)
+pub fn area(extent: Extent) -> usize {
+    times(extent.height, extent.width)
 }
 
-// The side of a band of a level.
-pub fn band_side(side: usize, level: usize) -> usize {
-    over(side, power(level))
+// Height and width of a band of a level.
+pub fn band_of(extent: Extent, level: usize) -> Extent {
+    Extent {
+        height: over(extent.height, power(level)),
+        width: over(extent.width, power(level)),
+    }
 }
 
 // The number of blocks of a level.
-pub fn level_blocks(side: usize, level: usize) -> usize {
-    area(band_side(side, plus(level, 1)))
+pub fn level_blocks(extent: Extent, level: usize) -> usize {
+    area(band_of(extent, plus(level, 1)))
 }
 
 // The number of blocks of the levels below `level`.
-pub fn blocks_before(side: usize, level: usize) -> usize {
+pub fn blocks_before(extent: Extent, level: usize) -> usize {
     let mut sum: usize = 0;
     let mut r: usize = 1;
     while r < level {
-        sum = plus(sum, level_blocks(side, r));
+        sum = plus(sum, level_blocks(extent, r));
         r += 1;
     }
     sum
 }
 
-pub fn all_blocks(side: usize, levels: usize) -> usize {
-    blocks_before(side, plus(levels, 1))
+pub fn all_blocks(extent: Extent, levels: usize) -> usize {
+    blocks_before(extent, plus(levels, 1))
 }
 
 // Checks 1 to 3, for a plane and coverings of these lengths.
-pub fn lengths(side: usize, levels: usize, plane: usize, coverings: usize) -> u32 {
-    let bad = side_and_depth(side, levels);
+pub fn lengths(extent: Extent, levels: usize, plane: usize, coverings: usize) -> u32 {
+    let bad = size_refusal(extent, levels);
     if bad != 0 {
         return bad;
     }
-    if plane != area(side) {
+    if plane != area(extent) {
         return 3;
     }
-    if coverings != all_blocks(side, levels) {
+    if coverings != all_blocks(extent, levels) {
         return 3;
     }
     0
@@ -110,8 +131,8 @@ pub struct Spot {
     pub col: usize,
 }
 
-fn level_entries(side: usize, levels: usize, level: usize) -> usize {
-    let one = area(band_side(side, level));
+fn level_entries(extent: Extent, levels: usize, level: usize) -> usize {
+    let one = area(band_of(extent, level));
     if level == levels {
         times(4, one)
     } else {
@@ -120,47 +141,47 @@ fn level_entries(side: usize, levels: usize, level: usize) -> usize {
 }
 
 // The n-th place of a level, in plane order.
-fn place_in_level(side: usize, levels: usize, level: usize, n: usize) -> Spot {
-    let m = band_side(side, level);
+fn place_in_level(extent: Extent, levels: usize, level: usize, n: usize) -> Spot {
+    let m = band_of(extent, level);
     let first = if level == levels { 0 } else { 1 };
     let inside = rest(n, area(m));
     Spot {
         level: level,
         band: plus(first, over(n, area(m))),
-        row: rest(inside, m),
-        col: over(inside, m),
+        row: rest(inside, m.height),
+        col: over(inside, m.height),
     }
 }
 
 // The n-th place of the plane, in plane order.
-pub fn place(side: usize, levels: usize, n: usize) -> Spot {
+pub fn place(extent: Extent, levels: usize, n: usize) -> Spot {
     let mut left = n;
     let mut level: usize = 1;
     while level < levels {
-        let here = level_entries(side, levels, level);
+        let here = level_entries(extent, levels, level);
         if left < here {
-            return place_in_level(side, levels, level, left);
+            return place_in_level(extent, levels, level, left);
         }
         left = minus(left, here);
         level += 1;
     }
-    place_in_level(side, levels, levels, left)
+    place_in_level(extent, levels, levels, left)
 }
 
 // Where an entry stands in a plane stored down columns: band 1 right of band 0, band 2 below it, band 3 both.
-pub fn index_of(side: usize, p: Spot) -> usize {
-    let m = band_side(side, p.level);
-    let down = if p.band < 2 { 0 } else { m };
+pub fn index_of(extent: Extent, p: Spot) -> usize {
+    let m = band_of(extent, p.level);
+    let down = if p.band < 2 { 0 } else { m.height };
     let across = if p.band == 1 {
-        m
+        m.width
     } else {
-        if p.band == 3 { m } else { 0 }
+        if p.band == 3 { m.width } else { 0 }
     };
-    plus(times(plus(p.col, across), side), plus(p.row, down))
+    plus(times(plus(p.col, across), extent.height), plus(p.row, down))
 }
 
-pub fn index_at(side: usize, levels: usize, n: usize) -> usize {
-    index_of(side, place(side, levels, n))
+pub fn index_at(extent: Extent, levels: usize, n: usize) -> usize {
+    index_of(extent, place(extent, levels, n))
 }
 
 // Whether the level has the band; band 0 is the deepest level's alone.
@@ -177,9 +198,9 @@ fn is_band(levels: usize, level: usize, band: usize) -> bool {
     band < 4
 }
 
-// The number in plane order of a place of the plane, where m is the side of its band.
-fn number_in(side: usize, levels: usize, p: Spot, m: usize) -> usize {
-    let before = minus(area(side), area(times(2, m)));
+// The number in plane order of a place of the plane, where m is its band.
+fn number_in(extent: Extent, levels: usize, p: Spot, m: Extent) -> usize {
+    let before = minus(area(extent), area(band_of(extent, minus(p.level, 1))));
     let bands = if p.level == levels {
         p.band
     } else {
@@ -187,47 +208,47 @@ fn number_in(side: usize, levels: usize, p: Spot, m: usize) -> usize {
     };
     plus(
         plus(before, times(bands, area(m))),
-        plus(times(p.col, m), p.row),
+        plus(times(p.col, m.height), p.row),
     )
 }
 
-// The number in plane order of a place, or the side's square where there is no such place.
-pub fn number_of(side: usize, levels: usize, p: Spot) -> usize {
-    let m = band_side(side, p.level);
+// The number in plane order of a place, or the whole area where there is no such place.
+pub fn number_of(extent: Extent, levels: usize, p: Spot) -> usize {
+    let m = band_of(extent, p.level);
     if !is_band(levels, p.level, p.band) {
-        return area(side);
+        return area(extent);
     }
-    if m <= p.row {
-        return area(side);
+    if m.height <= p.row {
+        return area(extent);
     }
-    if m <= p.col {
-        return area(side);
+    if m.width <= p.col {
+        return area(extent);
     }
-    number_in(side, levels, p, m)
+    number_in(extent, levels, p, m)
 }
 
 // The n-th block in covering order; its band is 0.
-pub fn block_place(side: usize, levels: usize, n: usize) -> Spot {
+pub fn block_place(extent: Extent, levels: usize, n: usize) -> Spot {
     let mut left = n;
     let mut level: usize = 1;
     while level < levels {
-        let here = level_blocks(side, level);
+        let here = level_blocks(extent, level);
         if left < here {
-            return block_in_level(side, level, left);
+            return block_in_level(extent, level, left);
         }
         left = minus(left, here);
         level += 1;
     }
-    block_in_level(side, levels, left)
+    block_in_level(extent, levels, left)
 }
 
-pub fn block_in_level(side: usize, level: usize, n: usize) -> Spot {
-    let m = band_side(side, plus(level, 1));
+pub fn block_in_level(extent: Extent, level: usize, n: usize) -> Spot {
+    let m = band_of(extent, plus(level, 1));
     Spot {
         level: level,
         band: 0,
-        row: rest(n, m),
-        col: over(n, m),
+        row: rest(n, m.height),
+        col: over(n, m.height),
     }
 }
 
@@ -256,12 +277,12 @@ pub fn in_range(value: i64, level: usize, band: usize) -> bool {
 }
 
 // Check 6.
-pub fn all_in_range(side: usize, levels: usize, plane: &[i64]) -> bool {
-    let end = area(side);
+pub fn all_in_range(extent: Extent, levels: usize, plane: &[i64]) -> bool {
+    let end = area(extent);
     let mut n: usize = 0;
     while n < end {
-        let p = place(side, levels, n);
-        if !in_range(value_at(plane, index_of(side, p)), p.level, p.band) {
+        let p = place(extent, levels, n);
+        if !in_range(value_at(plane, index_of(extent, p)), p.level, p.band) {
             return false;
         }
         n += 1;
@@ -286,11 +307,11 @@ pub fn all_coverings(coverings: &[u8]) -> bool {
 }
 
 // Checks 5 and 6.
-pub fn contents(side: usize, levels: usize, plane: &[i64], coverings: &[u8]) -> u32 {
+pub fn contents(extent: Extent, levels: usize, plane: &[i64], coverings: &[u8]) -> u32 {
     if !all_coverings(coverings) {
         return 5;
     }
-    if !all_in_range(side, levels, plane) {
+    if !all_in_range(extent, levels, plane) {
         return 6;
     }
     0

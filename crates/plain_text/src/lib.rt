@@ -2,7 +2,7 @@
 // shares no code, table or definition with the coder, and is proved to be safe and to end, and nothing more.
 //
 // The entries: `writing::write`, `writing::usage` and `reading::read`. Each answers with an `Outcome` of `plain_frame`: a refusal's number, or 0 and a
-// length, or side and levels.
+// length, or height, width and levels.
 pub mod lines;
 pub mod reading;
 pub mod writing;

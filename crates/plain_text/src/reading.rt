@@ -5,6 +5,7 @@ use crate::lines::natural;
 use crate::lines::read_line;
 use crate::lines::read_section;
 use crate::lines::stands;
+use plain_frame::frame::Extent;
 use plain_frame::frame::Spot;
 use plain_frame::frame::all_blocks;
 use plain_frame::frame::area;
@@ -24,7 +25,7 @@ use plain_frame::safe::put_value;
 // A sheet that keeps the line rules: its first values, and where its lines stand.
 pub struct Sheet {
     pub good: bool,
-    pub side: usize,
+    pub extent: Extent,
     pub levels: usize,
     pub blocks: usize,
     pub blocks_at: usize,
@@ -35,7 +36,10 @@ pub struct Sheet {
 fn no_sheet() -> Sheet {
     Sheet {
         good: false,
-        side: 0,
+        extent: Extent {
+            height: 0,
+            width: 0,
+        },
         levels: 0,
         blocks: 0,
         blocks_at: 0,
@@ -44,10 +48,10 @@ fn no_sheet() -> Sheet {
     }
 }
 
-// The line of side and levels, below its names.
+// The line of height, width and levels, below its names.
 fn read_head(text: &[u8]) -> Line {
-    if stands(text, 0, b"side levels\n") {
-        read_line(text, 12, 2)
+    if stands(text, 0, b"height width levels\n") {
+        read_line(text, 20, 3)
     } else {
         empty_line(0)
     }
@@ -72,7 +76,10 @@ fn read_sheet(text: &[u8]) -> Sheet {
     }
     Sheet {
         good: true,
-        side: natural(first.d),
+        extent: Extent {
+            height: natural(first.c),
+            width: natural(first.d),
+        },
         levels: natural(first.e),
         blocks: blocks.count,
         blocks_at: blocks.at,
@@ -93,14 +100,14 @@ fn is_block(l: Line, p: Spot) -> bool {
 
 // Check 11 on the block lines.
 fn blocks_stand(text: &[u8], s: Sheet) -> bool {
-    if s.blocks != all_blocks(s.side, s.levels) {
+    if s.blocks != all_blocks(s.extent, s.levels) {
         return false;
     }
     let mut at = s.blocks_at;
     let mut n: usize = 0;
     while n < s.blocks {
         let l = read_line(text, at, 4);
-        if !is_block(l, block_place(s.side, s.levels, n)) {
+        if !is_block(l, block_place(s.extent, s.levels, n)) {
             return false;
         }
         at = l.next;
@@ -110,9 +117,9 @@ fn blocks_stand(text: &[u8], s: Sheet) -> bool {
 }
 
 // The number in plane order of the place that a line names.
-fn line_number(l: Line, side: usize, levels: usize) -> usize {
+fn line_number(l: Line, extent: Extent, levels: usize) -> usize {
     number_of(
-        side,
+        extent,
         levels,
         Spot {
             level: natural(l.a),
@@ -130,11 +137,11 @@ fn entries_stand(text: &[u8], s: Sheet) -> bool {
     let mut n: usize = 0;
     while n < s.entries {
         let l = read_line(text, at, 5);
-        let here = line_number(l, s.side, s.levels);
+        let here = line_number(l, s.extent, s.levels);
         if here < free {
             return false;
         }
-        if area(s.side) <= here {
+        if area(s.extent) <= here {
             return false;
         }
         if l.e == 0 {
@@ -165,13 +172,17 @@ fn covers_known(text: &[u8], s: Sheet) -> bool {
     true
 }
 
+fn value_fits(l: Line) -> bool {
+    in_range(l.e, natural(l.a), natural(l.b))
+}
+
 // Check 6.
 fn values_fit(text: &[u8], s: Sheet) -> bool {
     let mut at = s.entries_at;
     let mut n: usize = 0;
     while n < s.entries {
         let l = read_line(text, at, 5);
-        if !in_range(l.e, natural(l.a), natural(l.b)) {
+        if !value_fits(l) {
             return false;
         }
         at = l.next;
@@ -201,8 +212,8 @@ fn store_values(text: &[u8], s: Sheet, plane: &mut [i64]) {
     let mut n: usize = 0;
     while n < s.entries {
         let l = read_line(text, at, 5);
-        let here = line_number(l, s.side, s.levels);
-        put_value(plane, index_at(s.side, s.levels, here), l.e);
+        let here = line_number(l, s.extent, s.levels);
+        put_value(plane, index_at(s.extent, s.levels, here), l.e);
         at = l.next;
         n += 1;
     }
@@ -212,7 +223,7 @@ fn read_refusal(text: &[u8], s: Sheet, plane: usize, coverings: usize) -> u32 {
     if !s.good {
         return 9;
     }
-    let bad = lengths(s.side, s.levels, plane, coverings);
+    let bad = lengths(s.extent, s.levels, plane, coverings);
     if bad != 0 {
         return bad;
     }
@@ -231,7 +242,7 @@ fn read_refusal(text: &[u8], s: Sheet, plane: usize, coverings: usize) -> u32 {
     0
 }
 
-// Reads a sheet; gives side and levels.
+// Reads a sheet; gives height, width and levels.
 pub fn read(text: &[u8], plane: &mut [i64], coverings: &mut [u8]) -> Outcome {
     let s = read_sheet(text);
     let bad = read_refusal(text, s, plane.len(), coverings.len());
@@ -241,5 +252,5 @@ pub fn read(text: &[u8], plane: &mut [i64], coverings: &mut [u8]) -> Outcome {
     store_covers(text, s, coverings);
     clear(plane);
     store_values(text, s, plane);
-    accepted(s.side, s.levels)
+    accepted(s.extent.height, s.extent.width, s.levels)
 }

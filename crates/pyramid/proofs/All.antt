@@ -14,7 +14,7 @@ use Rattle.pyramid.specs.Laws.{PyramidLaws, Places, PlaceLaws, Laws}
 use Rattle.pyramid.proofs.Pyramid.{numerators-sub, numerators-analyse}
 use Rattle.pyramid.proofs.Energy.{lowTotal, energy}
 use Rattle.pyramid.proofs.Ranges.{in-range}
-use Rattle.pyramid.proofs.Sides.{sized, sized-fits}
+use Rattle.pyramid.proofs.Sides.{size-laws}
 use Rattle.pyramid.proofs.Bounds.{bounds, rounded, exactly}
 use Rattle.pyramid.proofs.Choose.{covers-length, covers-numbers, covers-least}
 use Rattle.pyramid.proofs.Places.{All, places-inside}
@@ -78,5 +78,5 @@ laws = record {
   least = covers-least;
   exactly = exactly;
   rounded = rounded;
-  sides = λ R h w s t d. sized-fits (sized R h w s t d);
+  sizes = size-laws;
 }

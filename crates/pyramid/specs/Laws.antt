@@ -13,7 +13,7 @@ use Rattle.pyramid.specs.Plane.{Image, Fits, blocks, allBlocks, Numbers,
 use Rattle.pyramid.specs.Places.{Place, noPlace, planePlaces, tetroletPlaces, blockPlaces, at, sumOver}
 use Rattle.pyramid.specs.Slices.{coversOf, planeOf, samplesOf, nearest}
 use Rattle.pyramid.specs.Ranges.{inRange, InRange}
-use Rattle.pyramid.specs.Sides.{isSide, isDepth}
+use Rattle.pyramid.specs.Sides.{isSides, isDepth, Side}
 use Rattle.pyramid.specs.Least.{Least}
 
 -- One level of an h by w image, with R levels after it. Document 01: "low upper left, W1 upper right, W2 lower left, W3 lower right"; "Label s goes to row s
@@ -66,6 +66,14 @@ pub record PlaceLaws (R h w : ℕ) : Type 0 where
   -- the ranges as a test are the ranges as a fact
   pub tested : (P : Image) → T (inRange R h w P) ↔ InRange R h w P
 
+-- The checks 1 and 2 of a height and a width. Document 02, wish 2: "Height and width may each be any power of two from 4 to 512, and levels go up to log2 of
+-- the smaller minus 1."
+pub record SizeLaws (h w : ℕ) : Type 0 where
+  pub sides : T (isSides h w) ↔ (Side h × Side w)
+  pub depths : (s : Side h) (t : Side w) (R : ℕ) → T (isDepth R h w) ↔ ((1 ≤ R) × (R ≤ s .log - 1) × (R ≤ t .log - 1))
+  -- what passes them is whole blocks at each level
+  pub whole : (R : ℕ) → T (isSides h w) → T (isDepth R h w) → Fits R h w
+
 pub record Laws : Type 0 where
   pub byCoverings : (R h w : ℕ) → Fits R h w → (cs : ℕ → ℕ) → Numbers (allBlocks R h w) cs → PyramidLaws R h w cs
   pub level : (R h w : ℕ) (cs : ℕ → ℕ) (A : Image) → LevelLaws R h w cs A
@@ -80,5 +88,4 @@ pub record Laws : Type 0 where
   -- rounding is to nearest, halves upward: of n = nearest R y, 2 y + 4 ^ R is at least 2 n 4 ^ R and below 2 (n + 1) 4 ^ R
   pub rounded : (R : ℕ) (y : ℤ) → let m = 2 * 4 ^ R in let n = nearest R y in
       ((pos m *ℤ n) ≤ℤ (pos 2 *ℤ y +ℤ pos (4 ^ R))) × ((pos 2 *ℤ y +ℤ pos (4 ^ R)) <ℤ (pos m *ℤ n +ℤ pos m))
-  -- a height, a width and levels that pass the checks 1 and 2 are whole blocks at each level
-  pub sides : (R h w : ℕ) → T (isSide h) → T (isSide w) → T (isDepth R h w) → Fits R h w
+  pub sizes : (h w : ℕ) → SizeLaws h w

@@ -22,7 +22,7 @@ placeAt h w r b y x = record { level = r; band = b; row = y; col = x; down = top
 abbrev pub noPlace : Place
 noPlace = record { level = 0; band = 0; row = 0; col = 0; down = 0; across = 0 }
 
--- The entries of a band in column order, where the level's square is h by w.
+-- The entries of a band in column order, where the level works on h by w.
 abbrev pub bandPlaces : ℕ → ℕ → ℕ → ℕ → List Place
 bandPlaces h w r b = tabulate ((w / 2) * (h / 2)) (λ k. placeAt h w r b (k % (h / 2)) (k / (h / 2)))
 
@@ -37,7 +37,7 @@ isLast zero = true
 isLast (suc R) = false
 
 -- Document 01: "Plane order is level, band, column order", and "band 0 stays only at level R". The entries behind the first d levels, with R levels to
--- go on an h by w square; with band 0 or without.
+-- go on h by w; with band 0 or without.
 unfoldable pub placesFrom : Bool → ℕ → ℕ → ℕ → ℕ → List Place
 placesFrom low d zero h w = []
 placesFrom low d (suc R) h w =

@@ -20,7 +20,8 @@ abbrev pub Fits : ℕ → ℕ → ℕ → Type 0
 Fits zero h w = Unit {0}
 Fits (suc R) h w = (h % 4 ≡ 0) × (w % 4 ≡ 0) × Fits R (h / 2) (w / 2)
 
--- Document 01: "Level r works on the low-pass square of side N/2^(r-1), with (N/2^(r+1))^2 blocks." The blocks of an h by w square.
+-- Document 01: "Level r works on the low-pass square of side N/2^(r-1)"; document 02, wish 2: "Level r has height/2^(r+1) times width/2^(r+1) blocks." The blocks of
+-- an h by w image.
 abbrev pub blocks : ℕ → ℕ → ℕ
 blocks h w = (w / 4) * (h / 4)
 

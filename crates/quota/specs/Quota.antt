@@ -63,6 +63,6 @@ cutOf R h w T p = sliceOf h w (cut R h w T (imageOf h p))
 abbrev pub entriesOf : ℕ → ℕ → ℕ → List ℤ → ℕ
 entriesOf R h w p = entries R h w (imageOf h p)
 
--- Document 01, refusal 7: "K over N^2 - N^2/4^R".
-abbrev pub quotaLimit : ℕ → ℕ → ℕ
-quotaLimit side levels = side * side - side * side / 4 ^ levels
+-- Document 01, refusal 7: "K over N^2 - N^2/4^R"; document 02, wish 2: "All formulas with N^2 use height times width."
+abbrev pub quotaLimit : ℕ → ℕ → ℕ → ℕ
+quotaLimit height width levels = width * height - width * height / 4 ^ levels

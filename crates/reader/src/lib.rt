@@ -7,9 +7,9 @@ ghost use mathlib.Core.Path.{_≡_};
 ghost use Prim.Native.Nat.{_≤_};
 ghost use lib.ListN.{length};
 ghost use Rattle.text.specs.At.{skipAt};
-ghost use Rattle.text.specs.Lines.{twoAt, foursAt, fivesAt};
+ghost use Rattle.text.specs.Lines.{threeAt, foursAt, fivesAt};
 ghost use Rattle.reader.specs.Standing.{standing};
-use text::lines::LineOfTwo;
+use text::lines::LineOfThree;
 use text::names::Skip;
 
 pub struct Reader<'a> {
@@ -42,11 +42,11 @@ pub fn names<'a, 'b>(r: Reader<'a>, line: &'b [u8]) -> Skip
     text::names::skip_names(r.text, r.at, line)
 }
 
-// Takes a line of two values. Two wrong answers that the contract rules out: the values in the other order; a line with a third value taken as good.
-pub fn two<'a>(r: Reader<'a>) -> LineOfTwo
-    ensures { λ a. ⌜ a ≡ twoAt (now (r .entry .text)) (r .entry .at) ⌝ }
+// Takes a line of three values. Two wrong answers that the contract rules out: the values in the other order; a line with a fourth value taken as good.
+pub fn three<'a>(r: Reader<'a>) -> LineOfThree
+    ensures { λ a. ⌜ a ≡ threeAt (now (r .entry .text)) (r .entry .at) ⌝ }
 {
-    text::lines::read_two(r.text, r.at)
+    text::lines::read_three(r.text, r.at)
 }
 
 // Goes past as many lines of four values as there are. Two wrong answers that the contract rules out: a reader that stays where it was, before a line;
@@ -84,12 +84,12 @@ pub fn names_at(s: &[u8], at: usize, line: &[u8]) -> Skip
     names(over(s, at), line)
 }
 
-// A line of two values at a place of a plain text. Two wrong answers that the contract rules out: the values of the text's first line; a good answer
+// A line of three values at a place of a plain text. Two wrong answers that the contract rules out: the values of the text's first line; a good answer
 // past the text's end.
-pub fn two_at(s: &[u8], at: usize) -> LineOfTwo
-    ensures { λ a. ⌜ a ≡ twoAt (now (s .entry)) at ⌝ }
+pub fn three_at(s: &[u8], at: usize) -> LineOfThree
+    ensures { λ a. ⌜ a ≡ threeAt (now (s .entry)) at ⌝ }
 {
-    two(over(s, at))
+    three(over(s, at))
 }
 
 // The place past the lines of four values, at a place of a plain text. Two wrong answers that the contract rules out: the place before the last of

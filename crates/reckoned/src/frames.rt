@@ -1,4 +1,4 @@
-// The limits of sides, levels and the lengths of slices, each with what lies past it.
+// The limits of heights, widths, levels and the lengths of slices, each with what lies past it.
 use crate::pictures;
 use crate::pictures::Picture;
 use pairs::answers::end;
@@ -10,9 +10,10 @@ use pairs::planes::Lengths;
 use pairs::planes::Plane;
 
 // A plane of zeros in slices of these lengths, each block with covering 1.
-pub fn zeros(side: usize, levels: usize, plane: usize, coverings: usize) -> Plane {
+pub fn zeros(height: usize, width: usize, levels: usize, plane: usize, coverings: usize) -> Plane {
     Plane {
-        side: side,
+        height: height,
+        width: width,
         levels: levels,
         plane: plane,
         coverings: coverings,
@@ -23,7 +24,8 @@ pub fn zeros(side: usize, levels: usize, plane: usize, coverings: usize) -> Plan
 }
 
 fn put_frame(k: Plane) {
-    put(b"side ", k.side as u64);
+    put(b"height ", k.height as u64);
+    put(b"width ", k.width as u64);
     put(b"levels ", k.levels as u64);
     put(b"plane ", k.plane as u64);
     put(b"coverings ", k.coverings as u64);
@@ -40,7 +42,8 @@ fn tell_plane(before: bool, words: &[u8], k: Plane) -> bool {
 // The same after decomposing.
 fn tell_frame(words: &[u8], k: Plane) {
     let p = Picture {
-        side: k.side,
+        height: k.height,
+        width: k.width,
         levels: k.levels,
         samples: k.plane,
         plane: k.plane,
@@ -52,35 +55,68 @@ fn tell_frame(words: &[u8], k: Plane) {
     end(tell_plane(d, words, k));
 }
 
-pub fn frame(words: &[u8], side: usize, levels: usize, plane: usize, coverings: usize) {
-    let k = zeros(side, levels, plane, coverings);
+pub fn frame(
+    words: &[u8],
+    height: usize,
+    width: usize,
+    levels: usize,
+    plane: usize,
+    coverings: usize,
+) {
+    let k = zeros(height, width, levels, plane, coverings);
     put_frame(k);
     tell_frame(words, k);
 }
 
-// Sides from 0 to past 2^32. Side 512 with short slices is 3, so that it has passed 1 and 2.
+// Heights and widths from 0 to past 2^32. 512 by 512 with short slices is 3, so that it has passed 1 and 2.
 pub fn sides(words: &[u8]) {
-    frame(words, 0, 1, 0, 0);
-    frame(words, 2, 1, 4, 0);
-    frame(words, 4, 1, 16, 1);
-    frame(words, 6, 1, 36, 1);
-    frame(words, 8, 1, 64, 4);
-    frame(words, 512, 1, 16, 1);
-    frame(words, 513, 1, 16, 1);
-    frame(words, 1024, 1, 16, 1);
-    frame(words, 4294967300, 1, 16, 1);
+    frame(words, 0, 0, 1, 0, 0);
+    frame(words, 2, 2, 1, 4, 0);
+    frame(words, 4, 4, 1, 16, 1);
+    frame(words, 6, 6, 1, 36, 1);
+    frame(words, 8, 8, 1, 64, 4);
+    frame(words, 512, 512, 1, 16, 1);
+    frame(words, 513, 513, 1, 16, 1);
+    frame(words, 1024, 1024, 1, 16, 1);
+    frame(words, 4294967300, 4294967300, 1, 16, 1);
 }
 
-// Levels from 0 to the largest number, on sides 4, 8 and 512.
+// The same for a height alone and a width alone.
+pub fn strips(words: &[u8]) {
+    frame(words, 4, 8, 1, 32, 2);
+    frame(words, 8, 4, 1, 32, 2);
+    frame(words, 6, 8, 1, 48, 2);
+    frame(words, 8, 6, 1, 48, 2);
+    frame(words, 0, 4, 1, 0, 0);
+    frame(words, 4, 0, 1, 0, 0);
+    frame(words, 1024, 4, 1, 16, 1);
+    frame(words, 4, 1024, 1, 16, 1);
+    frame(words, 4294967300, 4, 1, 16, 1);
+    frame(words, 4, 4294967300, 1, 16, 1);
+}
+
+// Levels from 0 to the largest number, on squares of 4, 8 and 512.
 pub fn depths(words: &[u8]) {
-    frame(words, 4, 0, 16, 0);
-    frame(words, 4, 2, 16, 1);
-    frame(words, 8, 2, 64, 5);
-    frame(words, 8, 3, 64, 5);
-    frame(words, 512, 8, 16, 1);
-    frame(words, 512, 9, 16, 1);
-    frame(words, 4, 4294967297, 16, 1);
-    frame(words, 4, 18446744073709551615, 16, 1);
+    frame(words, 4, 4, 0, 16, 0);
+    frame(words, 4, 4, 2, 16, 1);
+    frame(words, 8, 8, 2, 64, 5);
+    frame(words, 8, 8, 3, 64, 5);
+    frame(words, 512, 512, 8, 16, 1);
+    frame(words, 512, 512, 9, 16, 1);
+    frame(words, 4, 4, 4294967297, 16, 1);
+    frame(words, 4, 4, 18446744073709551615, 16, 1);
+}
+
+// Levels up to the logarithm of the smaller of height and width, less 1. With short slices a good depth is 3.
+pub fn strip_depths(words: &[u8]) {
+    frame(words, 4, 8, 2, 32, 2);
+    frame(words, 8, 4, 2, 32, 2);
+    frame(words, 4, 16, 1, 64, 4);
+    frame(words, 16, 4, 1, 64, 4);
+    frame(words, 8, 512, 2, 16, 1);
+    frame(words, 8, 512, 3, 16, 1);
+    frame(words, 512, 8, 2, 16, 1);
+    frame(words, 512, 8, 3, 16, 1);
 }
 
 // The same before reading the plane's sheet.
@@ -89,30 +125,61 @@ pub fn tell_sheet(words: &[u8], k: Plane) {
     end(tell(v, b"read", planes::read(k)));
 }
 
-pub fn lengths(words: &[u8], side: usize, levels: usize, plane: usize, coverings: usize) {
-    let k = zeros(side, levels, plane, coverings);
+pub fn lengths(
+    words: &[u8],
+    height: usize,
+    width: usize,
+    levels: usize,
+    plane: usize,
+    coverings: usize,
+) {
+    let k = zeros(height, width, levels, plane, coverings);
     put_frame(k);
     tell_sheet(words, k);
 }
 
 // A plane of its exact length, one place less and one more.
 pub fn planes(words: &[u8]) {
-    lengths(words, 4, 1, 15, 1);
-    lengths(words, 4, 1, 16, 1);
-    lengths(words, 4, 1, 17, 1);
-    lengths(words, 8, 2, 63, 5);
-    lengths(words, 8, 2, 64, 5);
-    lengths(words, 8, 2, 65, 5);
+    lengths(words, 4, 4, 1, 15, 1);
+    lengths(words, 4, 4, 1, 16, 1);
+    lengths(words, 4, 4, 1, 17, 1);
+    lengths(words, 8, 8, 2, 63, 5);
+    lengths(words, 8, 8, 2, 64, 5);
+    lengths(words, 8, 8, 2, 65, 5);
+}
+
+// The same for strips, and the areas of the squares of their height and of their width.
+pub fn strip_planes(words: &[u8]) {
+    lengths(words, 4, 8, 1, 31, 2);
+    lengths(words, 4, 8, 1, 32, 2);
+    lengths(words, 4, 8, 1, 33, 2);
+    lengths(words, 4, 8, 1, 16, 2);
+    lengths(words, 4, 8, 1, 64, 2);
+    lengths(words, 8, 4, 1, 31, 2);
+    lengths(words, 8, 4, 1, 32, 2);
+    lengths(words, 8, 4, 1, 33, 2);
+    lengths(words, 8, 4, 1, 16, 2);
+    lengths(words, 8, 4, 1, 64, 2);
 }
 
 // Coverings as many as the blocks, one less and one more. Keep and threshold are lent none.
 pub fn blocks(words: &[u8]) {
-    lengths(words, 4, 1, 16, 0);
-    lengths(words, 4, 1, 16, 1);
-    lengths(words, 4, 1, 16, 2);
-    lengths(words, 8, 2, 64, 4);
-    lengths(words, 8, 2, 64, 5);
-    lengths(words, 8, 2, 64, 6);
+    lengths(words, 4, 4, 1, 16, 0);
+    lengths(words, 4, 4, 1, 16, 1);
+    lengths(words, 4, 4, 1, 16, 2);
+    lengths(words, 8, 8, 2, 64, 4);
+    lengths(words, 8, 8, 2, 64, 5);
+    lengths(words, 8, 8, 2, 64, 6);
+}
+
+// The same for strips.
+pub fn strip_blocks(words: &[u8]) {
+    lengths(words, 4, 8, 1, 32, 1);
+    lengths(words, 4, 8, 1, 32, 2);
+    lengths(words, 4, 8, 1, 32, 3);
+    lengths(words, 16, 4, 1, 64, 3);
+    lengths(words, 16, 4, 1, 64, 4);
+    lengths(words, 16, 4, 1, 64, 5);
 }
 
 fn filled(words: &[u8], numerators: usize, samples: usize, scratch: usize) {
@@ -126,11 +193,11 @@ fn filled(words: &[u8], numerators: usize, samples: usize, scratch: usize) {
     };
     tell_one(
         b"restore",
-        planes::restore_into(words, zeros(4, 1, 16, 1), l),
+        planes::restore_into(words, zeros(4, 4, 1, 16, 1), l),
     );
 }
 
-// The slices that restoring fills, at side 4: each of its exact length, one place less and one more.
+// The slices that restoring fills, at 4 by 4: each of its exact length, one place less and one more.
 pub fn restored(words: &[u8]) {
     filled(words, 16, 16, 16);
     filled(words, 15, 16, 16);

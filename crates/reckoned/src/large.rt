@@ -1,4 +1,4 @@
-// The largest picture: side 512 with 8 levels, which has 21,845 blocks. Its sheet is written; to decompose it the second implementation, which counts
+// The largest picture: 512 by 512 with 8 levels, which has 21,845 blocks. Its sheet is written; to decompose it the second implementation, which counts
 // the earlier choices anew for each covering of each block, would take thousands of millions of steps.
 use cases::answers::outcome;
 use cases::safe::put_value;
@@ -9,12 +9,12 @@ use pairs::answers::put_signed;
 use pairs::answers::tell_one;
 use pairs::front;
 
-// Both write the sheet, which has 220,711 bytes and the line of the value.
+// Both write the sheet, which has 220,723 bytes and the line of the value.
 fn both_write(plane: &[i64], coverings: &[u8]) -> Pair {
     let mut buffer = [b'?'; 220800];
     let mut buffer2 = buffer;
-    let x = outcome(sheet::write(512, 8, plane, coverings, &mut buffer));
-    let y = plain_text::writing::write(512, 8, plane, coverings, &mut buffer2);
+    let x = outcome(sheet::write(512, 512, 8, plane, coverings, &mut buffer));
+    let y = plain_text::writing::write(512, 512, 8, plane, coverings, &mut buffer2);
     Pair {
         coder: x,
         plain: y,
@@ -24,7 +24,8 @@ fn both_write(plane: &[i64], coverings: &[u8]) -> Pair {
 
 // The sheet of a plane that holds one value among zeros, with so many coverings.
 fn write(at: usize, value: i64, coverings: usize) {
-    put(b"side ", 512);
+    put(b"height ", 512);
+    put(b"width ", 512);
     put(b"levels ", 8);
     put(b"coverings ", coverings as u64);
     put(b"place ", at as u64);

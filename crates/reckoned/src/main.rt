@@ -8,6 +8,7 @@ use pairs::answers::heading;
 mod frames;
 mod large;
 mod lists;
+mod long;
 mod pictures;
 mod values;
 
@@ -16,27 +17,32 @@ fn examples(words: &[u8]) {
     heading(b"examples");
     frames::blocks(words);
     large::blocks();
-    frames::frame(words, 6, 1, 36, 1);
-    frames::frame(words, 1024, 1, 16, 1);
-    frames::frame(words, 4, 2, 16, 1);
+    frames::frame(words, 6, 6, 1, 36, 1);
+    frames::frame(words, 1024, 1024, 1, 16, 1);
+    frames::frame(words, 4, 4, 2, 16, 1);
     pictures::flat(words, 16, 16, 1, 16, 4096);
     lists::word(words, 118, 16);
-    values::quota(4, 1, 16, 12);
-    values::quota(4, 1, 16, 13);
+    values::quota(4, 4, 1, 16, 12);
+    values::quota(4, 4, 1, 16, 13);
     lists::usage_order();
 }
 
 fn frame(words: &[u8]) {
     heading(b"1 side");
     frames::sides(words);
+    frames::strips(words);
     heading(b"2 depth");
     frames::depths(words);
+    frames::strip_depths(words);
+    long::strips(words);
 }
 
 fn lengths(words: &[u8]) {
     heading(b"3 frame");
     pictures::frames(words);
     frames::planes(words);
+    frames::strip_planes(words);
+    frames::strip_blocks(words);
     frames::restored(words);
     lists::places(words);
     lists::usage_lengths();
@@ -51,12 +57,14 @@ fn contents(words: &[u8]) {
     heading(b"6 coefficient");
     values::shallow(words);
     values::deep(words);
+    values::strips(words);
     large::ranges();
 }
 
 fn numbers() {
     heading(b"7 quota");
     values::quotas();
+    values::strip_quotas();
     heading(b"8 threshold");
     values::limits();
 }
@@ -64,6 +72,7 @@ fn numbers() {
 fn rooms() {
     heading(b"10 tray");
     values::rooms();
+    values::strip_rooms();
     lists::usage_rooms();
 }
 

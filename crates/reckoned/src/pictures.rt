@@ -7,9 +7,10 @@ use pairs::front;
 use pairs::left::Left;
 use pairs::left::pair;
 
-// A call: side and levels, the lengths of its slices, and the value of every sample.
+// A call: height, width and levels, the lengths of its slices, and the value of every sample.
 pub struct Picture {
-    pub side: usize,
+    pub height: usize,
+    pub width: usize,
     pub levels: usize,
     pub samples: usize,
     pub plane: usize,
@@ -24,7 +25,8 @@ fn by_coder(k: Picture) -> Left {
     let mut coverings = [9u8; 6];
     let mut scratch = [-3i64; 65];
     let a = coder::decompose(
-        k.side,
+        k.height,
+        k.width,
         k.levels,
         front::samples(&samples, k.samples),
         front::values_mut(&mut plane, k.plane),
@@ -47,7 +49,8 @@ fn by_plain(words: &[u8], k: Picture) -> Left {
     let mut scratch = [-3i64; 65];
     let n = plain::pyramid::decompose(
         words,
-        k.side,
+        k.height,
+        k.width,
         k.levels,
         front::samples(&samples, k.samples),
         front::values_mut(&mut plane, k.plane),
@@ -67,7 +70,7 @@ pub fn decompose(words: &[u8], k: Picture) -> Pair {
     pair(by_coder(k), by_plain(words, k))
 }
 
-// A picture of side 4 and 1 level, in slices of these lengths.
+// A picture of 4 by 4 and 1 level, in slices of these lengths.
 pub fn flat(
     words: &[u8],
     samples: usize,
@@ -82,7 +85,8 @@ pub fn flat(
     put(b"scratch ", scratch as u64);
     put(b"sample ", sample as u64);
     let k = Picture {
-        side: 4,
+        height: 4,
+        width: 4,
         levels: 1,
         samples: samples,
         plane: plane,

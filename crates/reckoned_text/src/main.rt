@@ -6,9 +6,13 @@ mod texts;
 fn main() {
     heading(b"1 side");
     texts::sides();
+    texts::strips();
     heading(b"2 depth");
     texts::depths();
+    texts::strip_depths();
     heading(b"9 text");
+    texts::names();
+    texts::counts();
     texts::sizes();
     texts::signs();
     heading(b"11 sequence");
@@ -16,4 +20,6 @@ fn main() {
     texts::places();
     texts::order();
     texts::deep();
+    texts::strip_sheets();
+    texts::strip_places();
 }

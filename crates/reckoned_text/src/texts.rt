@@ -1,5 +1,6 @@
 // The limits of texts that are read, each with what lies past it.
 use pairs::answers::Pair;
+use pairs::answers::put;
 use pairs::answers::tell_one;
 use pairs::front;
 use pairs::planes::read_text;
@@ -16,7 +17,7 @@ fn put_line(text: &mut [u8], at: usize, line: &[u8]) -> usize {
 
 // The text of a sheet with these lines of values; gives its length.
 fn put_sheet(text: &mut [u8], head: &[u8], block: &[u8], entry: &[u8]) -> usize {
-    let a = put_text(text, 0, b"side levels\n");
+    let a = put_text(text, 0, b"height width levels\n");
     let b = put_line(text, a, head);
     let c = put_text(text, b, b"level row col cover\n");
     let d = put_line(text, c, block);
@@ -37,7 +38,7 @@ fn read_sheet(head: &[u8], block: &[u8], entry: &[u8], n: usize, b: usize) -> Pa
     read_text(front::bytes(&text, end), n, b)
 }
 
-// The sheet with these lines, in slices for side 4 and 1 level.
+// The sheet with these lines, in slices for 4 by 4 and 1 level.
 fn sheet(head: &[u8], block: &[u8], entry: &[u8]) {
     show_line(head);
     show_line(block);
@@ -50,28 +51,99 @@ fn head(line: &[u8]) {
 }
 
 fn block(line: &[u8]) {
-    sheet(b"4 1", line, b"");
+    sheet(b"4 4 1", line, b"");
 }
 
 fn entry(line: &[u8]) {
-    sheet(b"4 1", b"1 0 0 1", line);
+    sheet(b"4 4 1", b"1 0 0 1", line);
 }
 
-// Sides and levels; 3 where they are good and the slices are not as long.
+// Heights, widths and levels; 3 where they are good and the slices are not as long.
 pub fn sides() {
-    head(b"2 1");
-    head(b"4 1");
-    head(b"6 1");
-    head(b"512 8");
-    head(b"1024 8");
+    head(b"2 2 1");
+    head(b"4 4 1");
+    head(b"6 6 1");
+    head(b"512 512 8");
+    head(b"1024 1024 8");
+}
+
+// A height alone and a width alone.
+pub fn strips() {
+    head(b"6 8 1");
+    head(b"8 6 1");
+    head(b"1024 4 1");
+    head(b"4 1024 1");
+    head(b"4 512 1");
+    head(b"512 4 1");
 }
 
 pub fn depths() {
-    head(b"4 0");
-    head(b"4 2");
-    head(b"8 2");
-    head(b"8 3");
-    head(b"512 9");
+    head(b"4 4 0");
+    head(b"4 4 2");
+    head(b"8 8 2");
+    head(b"8 8 3");
+    head(b"512 512 9");
+}
+
+pub fn strip_depths() {
+    head(b"4 8 1");
+    head(b"4 8 2");
+    head(b"8 4 2");
+    head(b"8 512 2");
+    head(b"8 512 3");
+}
+
+// Height, width and levels as they were read, 0 where the sheet is refused.
+fn told(p: Pair) {
+    put(b"height ", p.coder.a as u64);
+    put(b"width ", p.coder.b as u64);
+    put(b"levels ", p.coder.c as u64);
+    tell_one(b"read", p);
+}
+
+// The same in slices for 4 by 8 and 1 level, which are as long as those for 8 by 4.
+fn strip(head: &[u8], block: &[u8], entry: &[u8]) {
+    show_line(head);
+    show_line(block);
+    show_line(entry);
+    told(read_sheet(head, block, entry, 32, 2));
+}
+
+// The second block is the next one down a column: right of the first at 4 by 8, below it at 8 by 4.
+pub fn strip_sheets() {
+    strip(b"4 8 1", b"1 0 0 1\n1 0 1 1", b"");
+    strip(b"8 4 1", b"1 0 0 1\n1 1 0 1", b"");
+    strip(b"4 8 1", b"1 0 0 1\n1 1 0 1", b"");
+    strip(b"8 4 1", b"1 0 0 1\n1 0 1 1", b"");
+}
+
+// Rows up to half the height, columns up to half the width.
+pub fn strip_places() {
+    strip(b"4 8 1", b"1 0 0 1\n1 0 1 1", b"1 1 1 3 1");
+    strip(b"4 8 1", b"1 0 0 1\n1 0 1 1", b"1 1 2 3 1");
+    strip(b"4 8 1", b"1 0 0 1\n1 0 1 1", b"1 1 1 4 1");
+    strip(b"8 4 1", b"1 0 0 1\n1 1 0 1", b"1 1 3 1 1");
+    strip(b"8 4 1", b"1 0 0 1\n1 1 0 1", b"1 1 1 3 1");
+}
+
+// The text as it stands.
+fn text(text: &[u8]) {
+    show_line(text);
+    tell_one(b"read", read_text(text, 16, 1));
+}
+
+// The names that a sheet opened with before, and that line with the numbers of now.
+pub fn names() {
+    text(b"side levels\n4 1\nlevel row col cover\n1 0 0 1\nlevel band row col value\n");
+    text(b"side levels\n4 4 1\nlevel row col cover\n1 0 0 1\nlevel band row col value\n");
+    text(b"height width levels\n4 4 1\nlevel row col cover\n1 0 0 1\nlevel band row col value\n");
+}
+
+// Two numbers, and four.
+pub fn counts() {
+    head(b"4 1");
+    head(b"4 4 1 1");
+    head(b"4 4");
 }
 
 // The block lines are the blocks: here one, of level 1, row 0 and column 0.
@@ -86,10 +158,12 @@ pub fn blocks() {
 
 // The largest number of a text and one more, in each kind of line.
 pub fn sizes() {
-    head(b"2147483647 1");
-    head(b"2147483648 1");
-    head(b"4 2147483647");
-    head(b"4 2147483648");
+    head(b"2147483647 4 1");
+    head(b"2147483648 4 1");
+    head(b"4 2147483647 1");
+    head(b"4 2147483648 1");
+    head(b"4 4 2147483647");
+    head(b"4 4 2147483648");
     block(b"1 0 0 2147483647");
     block(b"1 0 0 2147483648");
     entry(b"1 1 2147483647 0 1");
@@ -131,12 +205,12 @@ pub fn order() {
     entry(b"1 1 0 1 1\n1 1 1 0 1");
 }
 
-// The sheet of side 8 and 2 levels with its five blocks and these lines of entries.
+// The sheet of 8 by 8 and 2 levels with its five blocks and these lines of entries.
 fn deep_entry(lines: &[u8]) {
-    show_line(b"8 2");
+    show_line(b"8 8 2");
     show_line(lines);
     let p = read_sheet(
-        b"8 2",
+        b"8 8 2",
         b"1 0 0 1\n1 1 0 1\n1 0 1 1\n1 1 1 1\n2 0 0 1",
         lines,
         64,

@@ -8,7 +8,7 @@ use Rattle.refusals.specs.Refusal.{afterCall}
 use Rattle.sheet_text.specs.Sheet.{sheetText, writeRefusal}
 
 -- Document 01: "A longer tray keeps its further bytes; the length written is given." n is the number that the call is answered with, len the length that it gives. old is what the buffer holds before the call, new after it.
-pub record WriteAnswered (side levels : ℕ) (plane : List ℤ) (coverings old new : List ℕ) (n len : ℕ) : Type 0 where
-  pub number : n ≡ writeRefusal side levels plane coverings old
-  pub count : len ≡ afterCall (writeRefusal side levels plane coverings old) (length (sheetText side levels plane coverings)) 0
-  pub slice : new ≡ afterCall (writeRefusal side levels plane coverings old) (sheetText side levels plane coverings ++ drop (length (sheetText side levels plane coverings)) old) old
+pub record WriteAnswered (height width levels : ℕ) (plane : List ℤ) (coverings old new : List ℕ) (n len : ℕ) : Type 0 where
+  pub number : n ≡ writeRefusal height width levels plane coverings old
+  pub count : len ≡ afterCall (writeRefusal height width levels plane coverings old) (length (sheetText height width levels plane coverings)) 0
+  pub slice : new ≡ afterCall (writeRefusal height width levels plane coverings old) (sheetText height width levels plane coverings ++ drop (length (sheetText height width levels plane coverings)) old) old

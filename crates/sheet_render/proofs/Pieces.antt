@@ -12,7 +12,7 @@ use Rattle.integers.specs.Lists.{every}
 use Rattle.text.specs.Bytes.{bytes}
 use Rattle.text.specs.Text.{rowsText, rowText, render, valueText, after, digits}
 use Rattle.text.specs.Write.{cellText, fourText, fiveText}
-use Rattle.text.proofs.Stamp.{two-row, four-row, five-row}
+use Rattle.text.proofs.Stamp.{three-row, four-row, five-row}
 use Rattle.pyramid.specs.Plane.{Image}
 use Rattle.pyramid.specs.Places.{Place, BlockPlace, at}
 use Rattle.pyramid.specs.Ranges.{fitsRange}
@@ -85,21 +85,23 @@ line-some k v z = ap (λ (b : Bool). cond b [] (fiveText (k .level) (k .band) (k
 
 -- ---- the whole text
 
-pub sheet-parts : (n R : ℕ) (P : List ℤ) (cs : List ℕ) → sheetText n R P cs ≡ headPart n R ++ (blockPart R n n cs ++ entryPart R n n P)
+pub sheet-parts : (h w R : ℕ) (P : List ℤ) (cs : List ℕ) → sheetText h w R P cs ≡ headPart h w R ++ (blockPart R h w cs ++ entryPart R h w P)
 unfolding render rowsText
-sheet-parts n R P cs =
-    ap (λ x. bytes "side levels\n" ++ ((x ++ []) ++ (blockPart R n n cs ++ (entryPart R n n P ++ [])))) (two-row n R)
+sheet-parts h w R P cs =
+    ap (λ x. bytes "height width levels\n" ++ ((x ++ []) ++ (blockPart R h w cs ++ (entryPart R h w P ++ [])))) (three-row h w R)
     ∙ simp (append-nil)
 
-pub sheet-length : (n R : ℕ) (P : List ℤ) (cs : List ℕ) → length (sheetText n R P cs)
-    ≡ 59 + (length (digits n) + length (digits R) + length (blocksText R n n cs) + length (entriesText R n n P))
-sheet-length n R P cs =
-    ap length (sheet-parts n R P cs)
+pub sheet-length : (h w R : ℕ) (P : List ℤ) (cs : List ℕ) → length (sheetText h w R P cs)
+    ≡ 68 + (length (digits h) + length (digits w) + length (digits R) + length (blocksText R h w cs) + length (entriesText R h w P))
+sheet-length h w R P cs =
+    ap length (sheet-parts h w R P cs)
     ∙ omega (
       arith,
-      length-append (headPart n R) (blockPart R n n cs ++ entryPart R n n P),
-      length-append (blockPart R n n cs) (entryPart R n n P),
-      length-append (cellText n 32) (cellText R 10),
-      length-append (digits n) (32 ∷ []),
+      length-append (headPart h w R) (blockPart R h w cs ++ entryPart R h w P),
+      length-append (blockPart R h w cs) (entryPart R h w P),
+      length-append (cellText h 32) (cellText w 32 ++ cellText R 10),
+      length-append (cellText w 32) (cellText R 10),
+      length-append (digits h) (32 ∷ []),
+      length-append (digits w) (32 ∷ []),
       length-append (digits R) (10 ∷ []),
     )

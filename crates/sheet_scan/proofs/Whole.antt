@@ -12,16 +12,16 @@ use lib.IntN.{ℤ}
 use lib.ListN.{length, drop, length-drop, drop-of-length-le, getD}
 use Rattle.text.specs.Bytes.{bytes}
 use Rattle.text.specs.Text.{Parsed, bad, got, andThen, plain, signed, row, rows, times, skip, section, sections, whole, parse, any}
-use Rattle.text.specs.Lines.{two, four, five}
-use Rattle.text.proofs.Many.{SkipRead, RowRead, RowsRead, TwoLine, lines-read}
-use Rattle.pyramid.specs.Sides.{isSide, isDepth}
+use Rattle.text.specs.Lines.{three, four, five}
+use Rattle.text.proofs.Many.{SkipRead, RowRead, RowsRead, ThreeLine, lines-read}
+use Rattle.pyramid.specs.Sides.{isSides, isDepth}
 use Rattle.sheet_text.specs.Forms.{sheetForm}
-use Rattle.text.specs.declared.lines.Two.{Two}
-use Rattle.sheet_text.specs.Sheet.{isSome, listIn, rowsOf, sideIn, levelsIn}
+use Rattle.text.specs.declared.lines.Three.{Three}
+use Rattle.sheet_text.specs.Sheet.{isSome, listIn, rowsOf, heightIn, widthIn, levelsIn}
 use Rattle.sheet_scan.specs.Parts.{Tiled, Surveyed, LaidOut}
 
 abbrev pub N1 : List ℕ
-N1 = bytes "side levels\n"
+N1 = bytes "height width levels\n"
 
 abbrev pub N2 : List ℕ
 N2 = bytes "level row col cover\n"
@@ -51,11 +51,11 @@ module _ (s : List ℕ) where
   no-1 e = no s (rw e)
 
   module _ (p : ℕ) (h₁ : SkipRead N1 s 0 p) where
-    pub no-2 : row two (drop p s) ≡ bad → false ≡ isSome (parse sheetForm s)
+    pub no-2 : row three (drop p s) ≡ bad → false ≡ isSome (parse sheetForm s)
     unfolding sections rows times
     no-2 e = no s (rw (h₁ .read, e))
 
-    module _ (q : ℕ) (h₂ : RowRead two s p q) where
+    module _ (q : ℕ) (h₂ : RowRead three s p q) where
       pub no-3 : skip N2 (drop q s) ≡ bad → false ≡ isSome (parse sheetForm s)
       unfolding sections rows times
       no-3 e = no s (rw (h₁ .read, h₂ .read, e))
@@ -76,35 +76,36 @@ rows-are : (s : List ℕ) (a : List (List (List ℤ))) (w : ℕ) → length s �
 unfolding whole rowsOf
 rows-are s a w l e = ap (λ o. listIn (whole o)) (e ∙ ap (got a) (drop-of-length-le s l))
 
-pub laid : (s : List ℕ) (p t u v w : ℕ) (f : Two) (o m a b : Bool) → SkipRead N1 s 0 p → (x : TwoLine s p f) → SkipRead N2 s (f .next) t → RowsRead four s t u → SkipRead N3 s u v → RowsRead five s v w
-    → isSome (parse sheetForm s) ≡ true → length s ≤ w → Tiled s t (f .first) (f .second) o m → Surveyed s v (f .first) (f .second) a b
-    → LaidOut s (record { side = f .first; levels = f .second; blocks = t; entries = v; ordered = o; numbered = m; rising = a; fitting = b })
+pub laid : (s : List ℕ) (p t u v w : ℕ) (f : Three) (o m a b : Bool) → SkipRead N1 s 0 p → (x : ThreeLine s p f) → SkipRead N2 s (f .next) t → RowsRead four s t u → SkipRead N3 s u v → RowsRead five s v w
+    → isSome (parse sheetForm s) ≡ true → length s ≤ w → Tiled s t (f .first) (f .second) (f .third) o m → Surveyed s v (f .first) (f .second) (f .third) a b
+    → LaidOut s (record { height = f .first; width = f .second; levels = f .third; blocks = t; entries = v; ordered = o; numbered = m; rising = a; fitting = b })
 unfolding sections rows times
 laid s p t u v w f o m a b h₁ x h₃ h₄ h₅ h₆ k l y z =
     let e = rows-are s ((x .cells ∷ []) ∷ h₄ .lines ∷ h₆ .lines ∷ []) w l (rw (h₁ .read, x .read, h₃ .read, h₄ .read, h₅ .read, h₆ .read)) in
     record {
       keeps = k;
-      side = ap sideIn e ∙ sym (x .first);
-      levels = ap levelsIn e ∙ sym (x .second);
+      height = ap heightIn e ∙ sym (x .first);
+      width = ap widthIn e ∙ sym (x .second);
+      levels = ap levelsIn e ∙ sym (x .third);
       blocks = ap (λ r. getD r 1 []) e ∙ sym (lines-read four s t u h₄);
       entries = ap (λ r. getD r 2 []) e ∙ sym (lines-read five s v w h₆);
       tiled = y;
       surveyed = z;
     }
 
--- of a side or of levels that are not good, nothing is found
+-- of sides or of levels that are not good, nothing is found
 pub clash : false ≡ true → ⊥
 clash e = let z : _≡_ {A = ℕ} 0 1 = cc in omega arith
 
-module _ (s : List ℕ) (at n R : ℕ) (a b : Bool) where
-  pub no-side : isSide n ≡ false → Surveyed s at n R a b
-  no-side e = record { rising = λ x y. absurd (clash (sym e ∙ x)); fitting = λ x y. absurd (clash (sym e ∙ x)) }
+module _ (s : List ℕ) (at h w R : ℕ) (a b : Bool) where
+  pub no-sides : isSides h w ≡ false → Surveyed s at h w R a b
+  no-sides e = record { rising = λ x y. absurd (clash (sym e ∙ x)); fitting = λ x y. absurd (clash (sym e ∙ x)) }
 
-  pub no-depth : isDepth R n n ≡ false → Surveyed s at n R a b
+  pub no-depth : isDepth R h w ≡ false → Surveyed s at h w R a b
   no-depth e = record { rising = λ x y. absurd (clash (sym e ∙ y)); fitting = λ x y. absurd (clash (sym e ∙ y)) }
 
-  pub no-side-tiled : isSide n ≡ false → Tiled s at n R a b
-  no-side-tiled e = record { ordered = λ x y. absurd (clash (sym e ∙ x)); numbered = λ x y o. absurd (clash (sym e ∙ x)) }
+  pub no-sides-tiled : isSides h w ≡ false → Tiled s at h w R a b
+  no-sides-tiled e = record { ordered = λ x y. absurd (clash (sym e ∙ x)); numbered = λ x y o. absurd (clash (sym e ∙ x)) }
 
-  pub no-depth-tiled : isDepth R n n ≡ false → Tiled s at n R a b
+  pub no-depth-tiled : isDepth R h w ≡ false → Tiled s at h w R a b
   no-depth-tiled e = record { ordered = λ x y. absurd (clash (sym e ∙ y)); numbered = λ x y o. absurd (clash (sym e ∙ y)) }

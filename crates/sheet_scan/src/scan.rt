@@ -7,7 +7,7 @@ ghost use Rattle.text.specs.Text.{limit};
 ghost use lib.ListN.{length};
 ghost use Rattle.pyramid.specs.Places.{planePlaces};
 ghost use Rattle.pyramid.specs.Ranges.{fitsRange};
-ghost use Rattle.pyramid.specs.Sides.{isSide, isDepth};
+ghost use Rattle.pyramid.specs.Sides.{isSides, isDepth};
 ghost use Rattle.text.specs.Lines.{five, linesAt, fiveAt, fivesAt};
 ghost use Rattle.sheet_text.specs.Rows.{valuesOf};
 ghost use Rattle.sheet_text.specs.Sheet.{isSome};
@@ -123,11 +123,11 @@ pub struct Survey {
 }
 
 // Passes the lines from the place `at` on.
-pub fn look_along(s: &[u8], at: usize, side: u32, levels: u32) -> Survey
-    requires { ⌜ (isSide side ≡ true) × (isDepth levels side side ≡ true) × (at ≤ length (now s)) ⌝ }
-    ensures { λ r. ⌜ (r .past ≡ fivesAt (now (s .entry)) at) × (r .rising ≡ isSome (valuesOf (planePlaces levels side side) (linesAt five (now (s .entry)) at))) × (r .fitting ≡ fitAlong levels (planePlaces levels side side) (linesAt five (now (s .entry)) at)) ⌝ }
+pub fn look_along(s: &[u8], at: usize, height: u32, width: u32, levels: u32) -> Survey
+    requires { ⌜ (isSides height width ≡ true) × (isDepth levels height width ≡ true) × (at ≤ length (now s)) ⌝ }
+    ensures { λ r. ⌜ (r .past ≡ fivesAt (now (s .entry)) at) × (r .rising ≡ isSome (valuesOf (planePlaces levels height width) (linesAt five (now (s .entry)) at))) × (r .fitting ≡ fitAlong levels (planePlaces levels height width) (linesAt five (now (s .entry)) at)) ⌝ }
 {
-    let mut k = places::walk::first_entry(side, levels);
+    let mut k = places::walk::first_entry(height, width, levels);
     let mut p = at;
     let mut line = text::lines::read_five(s, at);
     let mut rising = true;
@@ -140,7 +140,7 @@ pub fn look_along(s: &[u8], at: usize, side: u32, levels: u32) -> Survey
         rising = both(rising, !h.zero);
         line = read_on(s, p, line, h.next);
         p = h.next;
-        k = places::walk::step(k, side);
+        k = places::walk::step(k, height, width);
     }
     let LineOfFive::Of(f) = line else {
         return Survey {
@@ -158,21 +158,21 @@ pub fn look_along(s: &[u8], at: usize, side: u32, levels: u32) -> Survey
 }
 
 // Stores the values of these lines in a plane, and 0 at each place without a line.
-pub fn store_values(plane: &mut [i64], s: &[u8], at: usize, side: u32, levels: u32)
-    requires { ⌜ (isSide side ≡ true) × (isDepth levels side side ≡ true) ⌝ }
-    requires { ⌜ length (now plane) ≡ side * side ⌝ }
-    ensures { λ _. ⌜ now (plane .exit) ≡ storedAlong side (planePlaces levels side side) (linesAt five (now (s .entry)) at) (now (plane .entry)) ⌝ }
+pub fn store_values(plane: &mut [i64], s: &[u8], at: usize, height: u32, width: u32, levels: u32)
+    requires { ⌜ (isSides height width ≡ true) × (isDepth levels height width ≡ true) ⌝ }
+    requires { ⌜ length (now plane) ≡ width * height ⌝ }
+    ensures { λ _. ⌜ now (plane .exit) ≡ storedAlong height (planePlaces levels height width) (linesAt five (now (s .entry)) at) (now (plane .entry)) ⌝ }
 {
-    let mut k = places::walk::first_entry(side, levels);
+    let mut k = places::walk::first_entry(height, width, levels);
     let mut p = at;
     let mut line = text::lines::read_five(s, at);
     while 0 < k.left {
         let h = look(s, p, line, k);
         let v = h.value;
-        let i = places::checks::index_of(k, side);
+        let i = places::checks::index_of(k, height, width);
         plane[i] = v;
         line = read_on(s, p, line, h.next);
         p = h.next;
-        k = places::walk::step(k, side);
+        k = places::walk::step(k, height, width);
     }
 }

@@ -7,7 +7,7 @@ ghost use lib.ListN.{length};
 ghost use Rattle.integers.specs.Lists.{every};
 ghost use Rattle.coverings.specs.Entry.{isNumber};
 ghost use Rattle.pyramid.specs.Places.{blockPlaces};
-ghost use Rattle.pyramid.specs.Sides.{isSide, isDepth};
+ghost use Rattle.pyramid.specs.Sides.{isSides, isDepth};
 ghost use Rattle.text.specs.Lines.{four, linesAt, foursAt};
 ghost use Rattle.sheet_text.specs.Rows.{coversOf};
 ghost use Rattle.sheet_text.specs.Sheet.{isSome};
@@ -50,11 +50,11 @@ pub struct Tiling {
 }
 
 // Passes the lines from the place `at` on.
-pub fn tile_along(s: &[u8], at: usize, side: u32, levels: u32) -> Tiling
-    requires { ⌜ (isSide side ≡ true) × (isDepth levels side side ≡ true) × (at ≤ length (now s)) ⌝ }
-    ensures { λ r. ⌜ (r .past ≡ foursAt (now (s .entry)) at) × (r .ordered ≡ isSome (coversOf (blockPlaces levels side side) (linesAt four (now (s .entry)) at))) × (r .ordered ≡ true → r .numbered ≡ every isNumber (coversAlong (linesAt four (now (s .entry)) at))) ⌝ }
+pub fn tile_along(s: &[u8], at: usize, height: u32, width: u32, levels: u32) -> Tiling
+    requires { ⌜ (isSides height width ≡ true) × (isDepth levels height width ≡ true) × (at ≤ length (now s)) ⌝ }
+    ensures { λ r. ⌜ (r .past ≡ foursAt (now (s .entry)) at) × (r .ordered ≡ isSome (coversOf (blockPlaces levels height width) (linesAt four (now (s .entry)) at))) × (r .ordered ≡ true → r .numbered ≡ every isNumber (coversAlong (linesAt four (now (s .entry)) at))) ⌝ }
 {
-    let mut k = places::walk::first_block(side, levels);
+    let mut k = places::walk::first_block(height, width, levels);
     let mut p = at;
     let mut ordered = true;
     let mut numbered = true;
@@ -71,7 +71,7 @@ pub fn tile_along(s: &[u8], at: usize, side: u32, levels: u32) -> Tiling
         let good = is_number(f.fourth);
         numbered = crate::scan::both(numbered, good);
         p = f.next;
-        k = places::walk::step(k, side);
+        k = places::walk::step(k, height, width);
     }
     let LineOfFour::Of(g) = text::lines::read_four(s, p) else {
         return Tiling {

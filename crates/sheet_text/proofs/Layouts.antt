@@ -4,7 +4,7 @@ use mathlib.Core.Bool.{Bool, true, false, _&&_}
 use mathlib.Core.List.{List, [], _∷_, _++_}
 use mathlib.Core.Logic.{_≢_}
 use Prim.Native.Nat.{ℕ, zero, suc, _+_, _-_, _*_, _/_, _%_, _<_, _≤_}
-use native.Mathlib.Nat.{div-add-mod', mod-lt, div-lt-iff-lt-mul, mul-le-mul}
+use native.Mathlib.Nat.{div-add-mod', mod-lt, div-lt-iff-lt-mul}
 use native.Mathlib.Omega.{arith}
 use borrow.Author.Tests.{eqb-true}
 use lib.Dec.{eqb}
@@ -184,6 +184,6 @@ blocks-count d (suc R) h w =
     ∙ (λ i. length-tabulate {A = BlockPlace} (blocks h w) (λ k. record { level = suc d; row = k % (h / 4); col = k / (h / 4) }) i + blocks-count (suc d) R (h / 2) (w / 2) i)
 
 -- a plane that passed has at most 512 times 512 entries
-pub plane-size : (n R : ℕ) → Passed n R → length (planePlaces R n n) ≤ 262144
-plane-size n zero q = absurd (omega (arith, q .some-level))
-plane-size n (suc R) q = omega (arith, count R n n (q .fits), mul-le-mul (q .small) (q .small))
+pub plane-size : (h w R : ℕ) → Passed h w R → length (planePlaces R h w) ≤ 262144
+plane-size h w zero q = absurd (omega (arith, q .some-level))
+plane-size h w (suc R) q = omega (arith, count R h w (q .fits), q .area)

@@ -11,7 +11,7 @@ use lib.IntN.{ℤ, pos, negsuc, natAbs}
 use lib.ListN.{length, getD}
 use Rattle.integers.proofs.Tests.{both-true}
 use Rattle.text.specs.Text.{plain, FitsValue, FitsRow, FitsRows}
-use Rattle.text.specs.Lines.{two, four, five, cellAt}
+use Rattle.text.specs.Lines.{three, four, five, cellAt}
 use Rattle.pyramid.specs.Plane.{Image}
 use Rattle.pyramid.specs.Places.{Place, BlockPlace, at}
 use Rattle.sheet_text.specs.Rows.{isZero, blockRow, entryRow, withRow, blockRows, entryRows, isBlock, isPlace, before, coversOf, valuesOf}
@@ -42,12 +42,13 @@ unfolding FitsValue
 plain-is (pos n) h = refl
 plain-is (negsuc n) h = absurd h
 
-pub two-is : (r : List ℤ) → FitsRow two r → r ≡ pos (cellAt r 0) ∷ pos (cellAt r 1) ∷ []
+pub three-is : (r : List ℤ) → FitsRow three r → r ≡ pos (cellAt r 0) ∷ pos (cellAt r 1) ∷ pos (cellAt r 2) ∷ []
 unfolding FitsRow
-two-is [] h = absurd h
-two-is (a ∷ []) h = absurd (h .1)
-two-is (a ∷ b ∷ []) h = let pa = plain-is a (h .0) in let pb = plain-is b (h .1 .0) in cc
-two-is (a ∷ b ∷ c ∷ l) h = absurd (h .1 .1)
+three-is [] h = absurd h
+three-is (a ∷ []) h = absurd (h .1)
+three-is (a ∷ b ∷ []) h = absurd (h .1 .1)
+three-is (a ∷ b ∷ c ∷ []) h = let pa = plain-is a (h .0) in let pb = plain-is b (h .1 .0) in let pc = plain-is c (h .1 .1 .0) in cc
+three-is (a ∷ b ∷ c ∷ d ∷ l) h = absurd (h .1 .1 .1)
 
 four-is : (r : List ℤ) → FitsRow four r → r ≡ pos (cellAt r 0) ∷ pos (cellAt r 1) ∷ pos (cellAt r 2) ∷ pos (cellAt r 3) ∷ []
 unfolding FitsRow

@@ -4,24 +4,25 @@ use mathlib.Core.Path.{_≡_}
 use mathlib.Core.List.{List}
 use lib.IntN.{ℤ}
 use lib.ListN.{length}
-use Rattle.sheet_text.specs.Sheet.{sheetText, writeRefusal, readRefusal, rowsOf, sideIn, levelsIn, planeIn, coveringsIn}
+use Rattle.sheet_text.specs.Sheet.{sheetText, writeRefusal, readRefusal, rowsOf, heightIn, widthIn, levelsIn, planeIn, coveringsIn}
 
 -- What reading a text gives, into slices as long as the plane and the coverings.
-pub record GivesBack (t : List ℕ) (n R : ℕ) (P : List ℤ) (cs : List ℕ) : Type 0 where
+pub record GivesBack (t : List ℕ) (h w R : ℕ) (P : List ℤ) (cs : List ℕ) : Type 0 where
   pub accepted : readRefusal t P cs ≡ 0
-  pub side : sideIn (rowsOf t) ≡ n
+  pub height : heightIn (rowsOf t) ≡ h
+  pub width : widthIn (rowsOf t) ≡ w
   pub levels : levelsIn (rowsOf t) ≡ R
   pub plane : planeIn (rowsOf t) ≡ P
   pub coverings : coveringsIn (rowsOf t) ≡ cs
 
 -- What writing again gives: the same text, into a buffer that holds it.
-pub record GivesAgain (t : List ℕ) (n R : ℕ) (P : List ℤ) (cs buffer : List ℕ) : Type 0 where
-  pub accepted : length t ≤ length buffer → writeRefusal n R P cs buffer ≡ 0
-  pub same : sheetText n R P cs ≡ t
+pub record GivesAgain (t : List ℕ) (h w R : ℕ) (P : List ℤ) (cs buffer : List ℕ) : Type 0 where
+  pub accepted : length t ≤ length buffer → writeRefusal h w R P cs buffer ≡ 0
+  pub same : sheetText h w R P cs ≡ t
 
 pub record SheetLaws : Type 0 where
   -- what write accepts, read accepts and gives back
-  pub written-is-read : (n R : ℕ) (P : List ℤ) (cs buffer : List ℕ) → writeRefusal n R P cs buffer ≡ 0 → GivesBack (sheetText n R P cs) n R P cs
+  pub written-is-read : (h w R : ℕ) (P : List ℤ) (cs buffer : List ℕ) → writeRefusal h w R P cs buffer ≡ 0 → GivesBack (sheetText h w R P cs) h w R P cs
   -- what read accepts, write gives back byte for byte
   pub read-is-written : (t : List ℕ) (P : List ℤ) (cs buffer : List ℕ) → readRefusal t P cs ≡ 0
-      → GivesAgain t (sideIn (rowsOf t)) (levelsIn (rowsOf t)) (planeIn (rowsOf t)) (coveringsIn (rowsOf t)) buffer
+      → GivesAgain t (heightIn (rowsOf t)) (widthIn (rowsOf t)) (levelsIn (rowsOf t)) (planeIn (rowsOf t)) (coveringsIn (rowsOf t)) buffer

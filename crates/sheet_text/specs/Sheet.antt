@@ -1,5 +1,4 @@
--- The text of a sheet, what a text says, and what the entries write and read refuse. Definitions are over a height h and a width w; the entries pass
--- the side twice. Assumes nothing.
+-- The text of a sheet, what a text says, and what the entries write and read refuse. Assumes nothing.
 use mathlib.Core.Bool.{Bool, true, false, not, _&&_}
 use mathlib.Core.List.{List, [], _∷_, _++_}
 use mathlib.Core.Option.{Option, none, some}
@@ -24,7 +23,7 @@ use Rattle.sheet_text.specs.Rows.{blockRows, entryRows, coversOf, values
 
 -- ---- write
 
--- The lines under the three lines of names, for an h by w plane of R levels; `head` is the one line under `side levels`.
+-- The lines under the three lines of names, for an h by w plane of R levels; `head` is the one line under `height width levels`.
 abbrev pub sheetRows : List ℤ → ℕ → ℕ → ℕ → List ℤ → List ℕ → List (List (List ℤ))
 sheetRows head R h w plane coverings =
     (head ∷ []) ∷ blockRows (blockPlaces R h w) coverings ∷ entryRows (imageOf h plane) (planePlaces R h w) ∷ []
@@ -36,12 +35,13 @@ blocksText R h w coverings = rowsText (blockRows (blockPlaces R h w) coverings)
 abbrev pub entriesText : ℕ → ℕ → ℕ → List ℤ → List ℕ
 entriesText R h w plane = rowsText (entryRows (imageOf h plane) (planePlaces R h w))
 
-abbrev pub headOf : ℕ → ℕ → List ℤ
-headOf side levels = pos side ∷ pos levels ∷ []
+-- Document 02, wish 2: "The sheet opens with `height width levels`".
+abbrev pub headOf : ℕ → ℕ → ℕ → List ℤ
+headOf height width levels = pos height ∷ pos width ∷ pos levels ∷ []
 
 -- The text of a sheet in its three parts, each a line of names and the lines under it.
-abbrev pub headPart : ℕ → ℕ → List ℕ
-headPart side levels = bytes "side levels\n" ++ (cellText side 32 ++ cellText levels 10)
+abbrev pub headPart : ℕ → ℕ → ℕ → List ℕ
+headPart height width levels = bytes "height width levels\n" ++ (cellText height 32 ++ (cellText width 32 ++ cellText levels 10))
 
 abbrev pub blockPart : ℕ → ℕ → ℕ → List ℕ → List ℕ
 blockPart R h w coverings = bytes "level row col cover\n" ++ blocksText R h w coverings
@@ -50,17 +50,17 @@ abbrev pub entryPart : ℕ → ℕ → ℕ → List ℤ → List ℕ
 entryPart R h w plane = bytes "level band row col value\n" ++ entriesText R h w plane
 
 -- The text of a sheet.
-abbrev pub sheetText : ℕ → ℕ → List ℤ → List ℕ → List ℕ
-sheetText side levels plane coverings = render sheetForm (sheetRows (headOf side levels) levels side side plane coverings)
+abbrev pub sheetText : ℕ → ℕ → ℕ → List ℤ → List ℕ → List ℕ
+sheetText height width levels plane coverings = render sheetForm (sheetRows (headOf height width levels) levels height width plane coverings)
 
 -- Document 01: "write 1 2 3 5 6 10".
-abbrev pub writeRefusal : ℕ → ℕ → List ℤ → List ℕ → List ℕ → ℕ
-writeRefusal side levels plane coverings buffer =
-    sizeRefusal side levels
-    (refuseIf (not (isPlane side side plane && isCoverings levels side side coverings)) 3
+abbrev pub writeRefusal : ℕ → ℕ → ℕ → List ℤ → List ℕ → List ℕ → ℕ
+writeRefusal height width levels plane coverings buffer =
+    sizeRefusal height width levels
+    (refuseIf (not (isPlane height width plane && isCoverings levels height width coverings)) 3
     (refuseIf (not (every isNumber coverings)) 5
-    (refuseIf (not (inRange levels side side (imageOf side plane))) 6
-    (refuseIf (ltb (length buffer) (length (sheetText side levels plane coverings))) 10 0))))
+    (refuseIf (not (inRange levels height width (imageOf height plane))) 6
+    (refuseIf (ltb (length buffer) (length (sheetText height width levels plane coverings))) 10 0))))
 
 -- ---- read
 
@@ -72,38 +72,41 @@ abbrev pub listIn : {A : Type 0} → Option (List A) → List A
 listIn none = []
 listIn (some l) = l
 
--- The lines of values of a text under each line of names; the values of the line under `side levels`.
+-- The lines of values of a text under each line of names; the values of the line under `height width levels`, in this order.
 unfoldable pub rowsOf : List ℕ → List (List (List ℤ))
 rowsOf t = listIn (parse sheetForm t)
 
-abbrev pub sideIn : List (List (List ℤ)) → ℕ
-sideIn rows = cellAt (getD (getD rows 0 []) 0 []) 0
+abbrev pub heightIn : List (List (List ℤ)) → ℕ
+heightIn rows = cellAt (getD (getD rows 0 []) 0 []) 0
+
+abbrev pub widthIn : List (List (List ℤ)) → ℕ
+widthIn rows = cellAt (getD (getD rows 0 []) 0 []) 1
 
 abbrev pub levelsIn : List (List (List ℤ)) → ℕ
-levelsIn rows = cellAt (getD (getD rows 0 []) 0 []) 1
+levelsIn rows = cellAt (getD (getD rows 0 []) 0 []) 2
 
 -- The coverings and the values along plane order that the lines say, where they say any.
 abbrev pub saidCoverings : List (List (List ℤ)) → Option (List ℕ)
-saidCoverings rows = coversOf (blockPlaces (levelsIn rows) (sideIn rows) (sideIn rows)) (getD rows 1 [])
+saidCoverings rows = coversOf (blockPlaces (levelsIn rows) (heightIn rows) (widthIn rows)) (getD rows 1 [])
 
 abbrev pub saidValues : List (List (List ℤ)) → Option (List ℤ)
-saidValues rows = valuesOf (planePlaces (levelsIn rows) (sideIn rows) (sideIn rows)) (getD rows 2 [])
+saidValues rows = valuesOf (planePlaces (levelsIn rows) (heightIn rows) (widthIn rows)) (getD rows 2 [])
 
 abbrev pub coveringsIn : List (List (List ℤ)) → List ℕ
 coveringsIn rows = listIn (saidCoverings rows)
 
 -- Document 01: "puts 0 at each plane place without a line".
 abbrev pub planeIn : List (List (List ℤ)) → List ℤ
-planeIn rows = spread (sideIn rows) (planePlaces (levelsIn rows) (sideIn rows) (sideIn rows)) (listIn (saidValues rows)) (replicate (sideIn rows * sideIn rows) (pos 0))
+planeIn rows = spread (heightIn rows) (planePlaces (levelsIn rows) (heightIn rows) (widthIn rows)) (listIn (saidValues rows)) (replicate (widthIn rows * heightIn rows) (pos 0))
 
 -- Document 01: "read 9 1 2 3 11 5 6", for a plane and coverings that are lent; first what follows 9.
 abbrev pub judge : List (List (List ℤ)) → List ℤ → List ℕ → ℕ
 judge rows plane coverings =
-    sizeRefusal (sideIn rows) (levelsIn rows)
-    (refuseIf (not (isPlane (sideIn rows) (sideIn rows) plane && isCoverings (levelsIn rows) (sideIn rows) (sideIn rows) coverings)) 3
+    sizeRefusal (heightIn rows) (widthIn rows) (levelsIn rows)
+    (refuseIf (not (isPlane (heightIn rows) (widthIn rows) plane && isCoverings (levelsIn rows) (heightIn rows) (widthIn rows) coverings)) 3
     (refuseIf (not (isSome (saidCoverings rows) && isSome (saidValues rows))) 11
     (refuseIf (not (every isNumber (coveringsIn rows))) 5
-    (refuseIf (not (inRange (levelsIn rows) (sideIn rows) (sideIn rows) (imageOf (sideIn rows) (planeIn rows)))) 6 0))))
+    (refuseIf (not (inRange (levelsIn rows) (heightIn rows) (widthIn rows) (imageOf (heightIn rows) (planeIn rows)))) 6 0))))
 
 abbrev pub readRefusal : List ℕ → List ℤ → List ℕ → ℕ
 readRefusal t plane coverings = refuseIf (not (isSome (parse sheetForm t))) 9 (judge (rowsOf t) plane coverings)

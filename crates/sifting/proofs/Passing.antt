@@ -35,19 +35,19 @@ use Rattle.quota.proofs.Demand.{q-at}
 use Rattle.sifting.specs.Sifting.{Ready, sifts}
 
 -- where the place with the number k stands, what is stored there, and what the first m stores leave
-abbrev pub spot : ℕ → ℕ → ℕ → ℕ
-spot R n k = indexIn n (getD (tetroletPlaces R n n) k noPlace)
+abbrev pub spot : ℕ → ℕ → ℕ → ℕ → ℕ
+spot R h w k = indexIn h (getD (tetroletPlaces R h w) k noPlace)
 
-abbrev pub value : ℕ → ℕ → (ℕ → Bool) → List ℤ → ℕ → ℤ
-value R n stay p k = cond (stay k) (getD p (spot R n k) (pos 0)) (pos 0)
+abbrev pub value : ℕ → ℕ → ℕ → (ℕ → Bool) → List ℤ → ℕ → ℤ
+value R h w stay p k = cond (stay k) (getD p (spot R h w k) (pos 0)) (pos 0)
 
-abbrev pub stores : ℕ → ℕ → (ℕ → Bool) → ℕ → List ℤ → List ℤ
-stores R n stay m p = scatter (spot R n) (value R n stay p) m p
+abbrev pub stores : ℕ → ℕ → ℕ → (ℕ → Bool) → ℕ → List ℤ → List ℤ
+stores R h w stay m p = scatter (spot R h w) (value R h w stay p) m p
 
-flat : (n x y x′ y′ : ℕ) → y < n → y′ < n → x * n + y ≡ x′ * n + y′ → (y ≡ y′) × (x ≡ x′)
-flat n x y x′ y′ k l e = (
-  sym (column-row x y n k) ∙ ap (λ (z : ℕ). z % n) e ∙ column-row x′ y′ n l,
-  sym (column-col x y n k) ∙ ap (λ (z : ℕ). z / n) e ∙ column-col x′ y′ n l,
+flat : (h x y x′ y′ : ℕ) → y < h → y′ < h → x * h + y ≡ x′ * h + y′ → (y ≡ y′) × (x ≡ x′)
+flat h x y x′ y′ k l e = (
+  sym (column-row x y h k) ∙ ap (λ (z : ℕ). z % h) e ∙ column-row x′ y′ h l,
+  sym (column-col x y h k) ∙ ap (λ (z : ℕ). z / h) e ∙ column-col x′ y′ h l,
 )
 
 -- the low-pass has the number 0
@@ -58,139 +58,139 @@ number-of-low (suc R) h w y x k l =
     rw (true-at y (h / 2) (omega (arith, halved-le R (h / 2))), true-at x (w / 2) (omega (arith, halved-le R (w / 2))))
     (ap (λ (m : ℕ). later ((w / 2) * (h / 2)) m) (number-of-low R (h / 2) (w / 2) y x k l))
 
-module _ (R n : ℕ) (f : Fits R n n) where
+module _ (R h w : ℕ) (f : Fits R h w) where
   abbrev ps : List Place
-  ps = tetroletPlaces R n n
+  ps = tetroletPlaces R h w
 
   -- an entry that stands at a place has its number
-  number-at-spot : (y x j : ℕ) → y < n → j < length ps → x * n + y ≡ spot R n j → numberAt R n n y x ≡ suc j
+  number-at-spot : (y x j : ℕ) → y < h → j < length ps → x * h + y ≡ spot R h w j → numberAt R h w y x ≡ suc j
   number-at-spot y x j k l e =
-      let i = places-inside 0 R n n f j l in
-      let g = flat n x y ((getD ps j none) .across) ((getD ps j none) .down) k (i .0) e in
-      (λ t. numberAt R n n (g .0 t) (g .1 t)) ∙ number-place 0 R n n f j l
+      let i = places-inside 0 R h w f j l in
+      let g = flat h x y ((getD ps j none) .across) ((getD ps j none) .down) k (i .0) e in
+      (λ t. numberAt R h w (g .0 t) (g .1 t)) ∙ number-place 0 R h w f j l
 
-  pub spots-differ : (i j : ℕ) → i < length ps → j < length ps → spot R n i ≡ spot R n j → i ≡ j
+  pub spots-differ : (i j : ℕ) → i < length ps → j < length ps → spot R h w i ≡ spot R h w j → i ≡ j
   spots-differ i j k l e =
-      let a = places-inside 0 R n n f i k in
-      let g = sym (number-place 0 R n n f i k) ∙ number-at-spot ((getD ps i none) .down) ((getD ps i none) .across) j (a .0) l e in
+      let a = places-inside 0 R h w f i k in
+      let g = sym (number-place 0 R h w f i k) ∙ number-at-spot ((getD ps i none) .down) ((getD ps i none) .across) j (a .0) l e in
       omega arith
 
-  pub spot-below : (j : ℕ) → j < length ps → spot R n j < n * n
-  spot-below j l = let i = places-inside 0 R n n f j l in index-bound ((getD ps j none) .across) ((getD ps j none) .down) n n (i .1) (i .0)
+  pub spot-below : (j : ℕ) → j < length ps → spot R h w j < w * h
+  spot-below j l = let i = places-inside 0 R h w f j l in index-bound ((getD ps j none) .across) ((getD ps j none) .down) w h (i .1) (i .0)
 
   module _ (stay : ℕ → Bool) (p : List ℤ) where
     -- an entry is as it was until the pass reaches it
-    pub unread : (m : ℕ) → m < length ps → getD (stores R n stay m p) (spot R n m) (pos 0) ≡ getD p (spot R n m) (pos 0)
-    unread m l = scatter-out (spot R n) (value R n stay p) p m (spot R n m) (pos 0) (λ j k e. let d = spots-differ m j l (omega arith) e in omega arith)
+    pub unread : (m : ℕ) → m < length ps → getD (stores R h w stay m p) (spot R h w m) (pos 0) ≡ getD p (spot R h w m) (pos 0)
+    unread m l = scatter-out (spot R h w) (value R h w stay p) p m (spot R h w m) (pos 0) (λ j k e. let d = spots-differ m j l (omega arith) e in omega arith)
 
-    pub stores-all : length p ≡ n * n → stores R n stay (length ps) p ≡ sliceOf n n (select R n n stay (imageOf n p))
+    pub stores-all : length p ≡ w * h → stores R h w stay (length ps) p ≡ sliceOf h w (select R h w stay (imageOf h p))
     stores-all long =
-        slice-of n n (select R n n stay (imageOf n p)) (stores R n stay (length ps) p) (scatter-length (spot R n) (value R n stay p) p (length ps) ∙ long) agree
+        slice-of h w (select R h w stay (imageOf h p)) (stores R h w stay (length ps) p) (scatter-length (spot R h w) (value R h w stay p) p (length ps) ∙ long) agree
       where
         P : Image
-        P = imageOf n p
+        P = imageOf h p
 
-        agree : (y x : ℕ) → y < n → x < n → getD (stores R n stay (length ps) p) (x * n + y) (pos 0) ≡ select R n n stay P y x
-        agree y x k l = go (entry-cases 0 R n n f y x k l)
+        agree : (y x : ℕ) → y < h → x < w → getD (stores R h w stay (length ps) p) (x * h + y) (pos 0) ≡ select R h w stay P y x
+        agree y x k l = go (entry-cases 0 R h w f y x k l)
           where
-            go : ((y < halved R n) × (x < halved R n)) ⊎ ((m : ℕ) × (m < length ps) × ((getD ps m none) .down ≡ y) × ((getD ps m none) .across ≡ x))
-                → getD (stores R n stay (length ps) p) (x * n + y) (pos 0) ≡ select R n n stay P y x
+            go : ((y < halved R h) × (x < halved R w)) ⊎ ((m : ℕ) × (m < length ps) × ((getD ps m none) .down ≡ y) × ((getD ps m none) .across ≡ x))
+                → getD (stores R h w stay (length ps) p) (x * h + y) (pos 0) ≡ select R h w stay P y x
             go (inl i) =
-                scatter-out (spot R n) (value R n stay p) p (length ps) (x * n + y) (pos 0)
-                (λ j b e. let a = sym (number-at-spot y x j k b e) ∙ number-of-low R n n y x (i .0) (i .1) in omega arith)
-                ∙ sym (select-low R n n stay P y x (i .0) (i .1))
+                scatter-out (spot R h w) (value R h w stay p) p (length ps) (x * h + y) (pos 0)
+                (λ j b e. let a = sym (number-at-spot y x j k b e) ∙ number-of-low R h w y x (i .0) (i .1) in omega arith)
+                ∙ sym (select-low R h w stay P y x (i .0) (i .1))
             go (inr r) =
-                (λ t. getD (stores R n stay (length ps) p) (sym (r .3) t * n + sym (r .2) t) (pos 0))
-                ∙ scatter-in (spot R n) (value R n stay p) p (length ps) (r .0) (pos 0) (r .1) (subst⁻¹ (λ (z : ℕ). spot R n (r .0) < z) long (spot-below (r .0) (r .1)))
+                (λ t. getD (stores R h w stay (length ps) p) (sym (r .3) t * h + sym (r .2) t) (pos 0))
+                ∙ scatter-in (spot R h w) (value R h w stay p) p (length ps) (r .0) (pos 0) (r .1) (subst⁻¹ (λ (z : ℕ). spot R h w (r .0) < z) long (spot-below (r .0) (r .1)))
                 (λ j a b e. let d = spots-differ (r .0) j (r .1) b e in omega arith)
-                ∙ sym (select-places 0 R n n f stay P (r .0) (r .1))
-                ∙ (λ t. select R n n stay P ((r .2) t) ((r .3) t))
+                ∙ sym (select-places 0 R h w f stay P (r .0) (r .1))
+                ∙ (λ t. select R h w stay P ((r .2) t) ((r .3) t))
 
 -- selections that leave the same at each place
-pub same-selected : (R n : ℕ) → Fits R n n → (a b : ℕ → Bool) (P : Image)
-    → ((m : ℕ) → m < length (tetroletPlaces R n n) → cond (a m) (at P (getD (tetroletPlaces R n n) m none)) (pos 0) ≡ cond (b m) (at P (getD (tetroletPlaces R n n) m none)) (pos 0))
-    → sliceOf n n (select R n n a P) ≡ sliceOf n n (select R n n b P)
-same-selected R n f a b P e =
-    slice-of n n (select R n n b P) (sliceOf n n (select R n n a P)) (slice-length n n (select R n n a P))
-    (λ y x k l. image-slice n n (select R n n a P) y x k l ∙ go y x (entry-cases 0 R n n f y x k l))
+pub same-selected : (R h w : ℕ) → Fits R h w → (a b : ℕ → Bool) (P : Image)
+    → ((m : ℕ) → m < length (tetroletPlaces R h w) → cond (a m) (at P (getD (tetroletPlaces R h w) m none)) (pos 0) ≡ cond (b m) (at P (getD (tetroletPlaces R h w) m none)) (pos 0))
+    → sliceOf h w (select R h w a P) ≡ sliceOf h w (select R h w b P)
+same-selected R h w f a b P e =
+    slice-of h w (select R h w b P) (sliceOf h w (select R h w a P)) (slice-length h w (select R h w a P))
+    (λ y x k l. image-slice h w (select R h w a P) y x k l ∙ go y x (entry-cases 0 R h w f y x k l))
   where
     ps : List Place
-    ps = tetroletPlaces R n n
+    ps = tetroletPlaces R h w
 
-    go : (y x : ℕ) → ((y < halved R n) × (x < halved R n)) ⊎ ((m : ℕ) × (m < length ps) × ((getD ps m none) .down ≡ y) × ((getD ps m none) .across ≡ x)) → select R n n a P y x ≡ select R n n b P y x
-    go y x (inl i) = select-low R n n a P y x (i .0) (i .1) ∙ sym (select-low R n n b P y x (i .0) (i .1))
+    go : (y x : ℕ) → ((y < halved R h) × (x < halved R w)) ⊎ ((m : ℕ) × (m < length ps) × ((getD ps m none) .down ≡ y) × ((getD ps m none) .across ≡ x)) → select R h w a P y x ≡ select R h w b P y x
+    go y x (inl i) = select-low R h w a P y x (i .0) (i .1) ∙ sym (select-low R h w b P y x (i .0) (i .1))
     go y x (inr r) =
-        (λ t. select R n n a P (sym (r .2) t) (sym (r .3) t))
-        ∙ select-places 0 R n n f a P (r .0) (r .1) ∙ e (r .0) (r .1) ∙ sym (select-places 0 R n n f b P (r .0) (r .1))
-        ∙ (λ t. select R n n b P ((r .2) t) ((r .3) t))
+        (λ t. select R h w a P (sym (r .2) t) (sym (r .3) t))
+        ∙ select-places 0 R h w f a P (r .0) (r .1) ∙ e (r .0) (r .1) ∙ sym (select-places 0 R h w f b P (r .0) (r .1))
+        ∙ (λ t. select R h w b P ((r .2) t) ((r .3) t))
 
 -- how many entries a selection leaves that are not zero, where none that stays is zero
-pub count-selected : (R n : ℕ) → Fits R n n → (stay : ℕ → Bool) (P : Image)
-    → ((m : ℕ) → m < length (tetroletPlaces R n n) → stay m ≡ true → 0 < natAbs (at P (getD (tetroletPlaces R n n) m none)))
-    → entriesOf R n n (sliceOf n n (select R n n stay P)) ≡ Σℕ (length (tetroletPlaces R n n)) (λ m. cond (stay m) 1 0)
-count-selected R n f stay P some =
-    entries-cong R n n f (imageOf n (sliceOf n n S)) S (image-slice n n S)
+pub count-selected : (R h w : ℕ) → Fits R h w → (stay : ℕ → Bool) (P : Image)
+    → ((m : ℕ) → m < length (tetroletPlaces R h w) → stay m ≡ true → 0 < natAbs (at P (getD (tetroletPlaces R h w) m none)))
+    → entriesOf R h w (sliceOf h w (select R h w stay P)) ≡ Σℕ (length (tetroletPlaces R h w)) (λ m. cond (stay m) 1 0)
+count-selected R h w f stay P some =
+    entries-cong R h w f (imageOf h (sliceOf h w S)) S (image-slice h w S)
     ∙ sum-numbers ps (λ p. cond (isZero (at S p)) 0 1)
-    ∙ Σℕ-cong (length ps) (λ m. cond (isZero (at S (getD ps m none))) 0 1) (λ m. cond (stay m) 1 0) (λ m l. ap {B = ℕ} (λ (z : ℤ). cond (isZero z) 0 1) (select-places 0 R n n f stay P m l) ∙ go (stay m) (at P (getD ps m none)) (some m l))
+    ∙ Σℕ-cong (length ps) (λ m. cond (isZero (at S (getD ps m none))) 0 1) (λ m. cond (stay m) 1 0) (λ m l. ap {B = ℕ} (λ (z : ℤ). cond (isZero z) 0 1) (select-places 0 R h w f stay P m l) ∙ go (stay m) (at P (getD ps m none)) (some m l))
   where
     ps : List Place
-    ps = tetroletPlaces R n n
+    ps = tetroletPlaces R h w
 
     S : Image
-    S = select R n n stay P
+    S = select R h w stay P
 
     go : (b : Bool) (z : ℤ) → (b ≡ true → 0 < natAbs z) → _≡_ {A = ℕ} (cond (isZero (cond b z (pos 0))) 0 1) (cond b 1 0)
-    go true z h = ap {B = ℕ} (λ (b : Bool). cond b 0 1) (is-false (eqb (natAbs z) 0) (λ t. let e = eqb→eq (natAbs z) 0 t in let l = h refl in omega arith))
-    go false z h = refl
+    go true z o = ap {B = ℕ} (λ (b : Bool). cond b 0 1) (is-false (eqb (natAbs z) 0) (λ t. let e = eqb→eq (natAbs z) 0 t in let l = o refl in omega arith))
+    go false z o = refl
 
 -- ---- at one place of a walk
 
 -- what is known where a walk stands at the place with the number m
-pub record Here (R n : ℕ) (p : List ℤ) (m : ℕ) (k : Walk) : Type 0 where
-  pub number : m < length (tetroletPlaces R n n)
-  pub index : indexIn n (entryOf k) ≡ spot R n m
+pub record Here (R h w : ℕ) (p : List ℤ) (m : ℕ) (k : Walk) : Type 0 where
+  pub number : m < length (tetroletPlaces R h w)
+  pub index : indexIn h (entryOf k) ≡ spot R h w m
   pub low : 1 ≤ k .level
   pub high : k .level ≤ R
   pub most : R ≤ 8
-  pub rank : getD (ranks R n n (imageOf n p)) m 0 ≡ natAbs (getD p (spot R n m) (pos 0)) * 2 ^ (R - k .level)
-  pub bound : natAbs (getD p (spot R n m) (pos 0)) ≤ 2 * 4 ^ (k .level - 1) * 4095
+  pub rank : getD (ranks R h w (imageOf h p)) m 0 ≡ natAbs (getD p (spot R h w m) (pos 0)) * 2 ^ (R - k .level)
+  pub bound : natAbs (getD p (spot R h w m) (pos 0)) ≤ 2 * 4 ^ (k .level - 1) * 4095
 
-pub in-range : (R n : ℕ) (P : Image) → 1 ≤ R → inRange R n n P ≡ true → InRange R n n P
-in-range zero n P l e = absurd (omega arith)
-in-range (suc R) n P l e = (ranged R n n P) .0 (subst T (sym e) tt)
+pub in-range : (R h w : ℕ) (P : Image) → 1 ≤ R → inRange R h w P ≡ true → InRange R h w P
+in-range zero h w P l e = absurd (omega arith)
+in-range (suc R) h w P l e = (ranged R h w P) .0 (subst T (sym e) tt)
 
 pub more-left : (l : List Place) (m : ℕ) (x : Place) (t : List Place) → drop m l ≡ x ∷ t → m < length l
 more-left l m x t e = let a = ap length e in omega (arith, length-drop m l)
 
-pub here : (R n : ℕ) (p : List ℤ) → Ready n R p → (m : ℕ) (k : Walk) (t : List Place) → entriesLeft k ≡ drop m (tetroletPlaces R n n) → entriesLeft k ≡ entryOf k ∷ t → Here R n p m k
-here R n p r m k t e g =
-    let q = passed n R (r .side-is) (r .depth-is) in
+pub here : (R h w : ℕ) (p : List ℤ) → Ready h w R p → (m : ℕ) (k : Walk) (t : List Place) → entriesLeft k ≡ drop m (tetroletPlaces R h w) → entriesLeft k ≡ entryOf k ∷ t → Here R h w p m k
+here R h w p r m k t e g =
+    let q = passed h w R (r .sided) (r .deep) in
     let l = more-left ps m (entryOf k) t (sym e ∙ g) in
     let d = sym (drop-cons ps m none l) ∙ sym e ∙ g in
     let is : getD ps m none ≡ entryOf k = head-is d in
-    let v = places-levels 0 R R n n (omega arith) m l in
+    let v = places-levels 0 R R h w (omega arith) m l in
     let lv : (getD ps m none) .level ≡ k .level = ap (λ (x : Place). x .level) is in
     record {
       number = l;
-      index = ap (indexIn n) (sym is);
+      index = ap (indexIn h) (sym is);
       low = omega (arith, v .0);
       high = omega (arith, v .1);
-      most = omega (arith, q .levels, q .log-high);
-      rank = q-at R n n (q .fits) 0 (imageOf n p) m l ∙ ap (λ (x : ℕ). natAbs (getD p (spot R n m) (pos 0)) * 2 ^ (R - x)) lv;
-      bound = subst (λ (x : ℕ). natAbs (getD p (spot R n m) (pos 0)) ≤ 2 * 4 ^ (x - 1) * 4095) lv (in-range R n (imageOf n p) (q .some-level) (r .range) .tetrolet m l);
+      most = omega (arith, q .few);
+      rank = q-at R h w (q .fits) 0 (imageOf h p) m l ∙ ap (λ (x : ℕ). natAbs (getD p (spot R h w m) (pos 0)) * 2 ^ (R - x)) lv;
+      bound = subst (λ (x : ℕ). natAbs (getD p (spot R h w m) (pos 0)) ≤ 2 * 4 ^ (x - 1) * 4095) lv (in-range R h w (imageOf h p) (q .some-level) (r .range) .tetrolet m l);
     }
   where
     ps : List Place
-    ps = tetroletPlaces R n n
+    ps = tetroletPlaces R h w
 
     head-is : {a b : Place} {u v : List Place} → a ∷ u ≡ b ∷ v → a ≡ b
     head-is e = cc
 
 -- an entry that a pass leaves is not zero
-pub sifted-not-zero : (R n : ℕ) → Fits R n n → (P : Image) (limit left m : ℕ) → m < length (tetroletPlaces R n n) → sifts limit left (ranks R n n P) m ≡ true → 0 < natAbs (at P (getD (tetroletPlaces R n n) m none))
-sifted-not-zero R n f P limit left m l e =
-    go (natAbs (at P (getD (tetroletPlaces R n n) m none))) (2 ^ (R - (getD (tetroletPlaces R n n) m none) .level))
-    (subst (λ (x : ℕ). 0 < x) (q-at R n n f 0 P m l) (ltb→lt 0 (getD (ranks R n n P) m 0) (both-left (ltb 0 (getD (ranks R n n P) m 0)) _ (subst T (sym e) tt))))
+pub sifted-not-zero : (R h w : ℕ) → Fits R h w → (P : Image) (limit left m : ℕ) → m < length (tetroletPlaces R h w) → sifts limit left (ranks R h w P) m ≡ true → 0 < natAbs (at P (getD (tetroletPlaces R h w) m none))
+sifted-not-zero R h w f P limit left m l e =
+    go (natAbs (at P (getD (tetroletPlaces R h w) m none))) (2 ^ (R - (getD (tetroletPlaces R h w) m none) .level))
+    (subst (λ (x : ℕ). 0 < x) (q-at R h w f 0 P m l) (ltb→lt 0 (getD (ranks R h w P) m 0) (both-left (ltb 0 (getD (ranks R h w P) m 0)) _ (subst T (sym e) tt))))
   where
     go : (a b : ℕ) → 0 < a * b → 0 < a
     go zero b e = absurd (let z = zero-mul b in omega arith)

@@ -27,28 +27,25 @@ rank-small v l R a b c h = go (4 ^ (l - 1)) (2 ^ (R - l)) (powers (l - 1) (R - l
     go x y p q = omega arith
 
 -- the area is 4 ^ R times that of the low-pass
-area : (R n : ℕ) → Fits R n n → n * n ≡ 4 ^ R * (halved R n * halved R n)
-area zero n f = omega arith
-area (suc R) n f = go (n / 2) (4 ^ R) (halved R (n / 2)) (whole (f .0)) (area R (n / 2) (f .2)) (pow-succ' 4 R)
+area : (R h w : ℕ) → Fits R h w → w * h ≡ 4 ^ R * (halved R w * halved R h)
+area zero h w f = omega arith
+area (suc R) h w f = go (h / 2) (w / 2) (4 ^ R) (halved R (w / 2) * halved R (h / 2)) (whole h (f .0)) (whole w (f .1)) (area R (h / 2) (w / 2) (f .2)) (pow-succ' 4 R)
   where
-    whole : n % 4 ≡ 0 → n ≡ 2 * (n / 2)
-    whole e = omega arith
+    whole : (n : ℕ) → n % 4 ≡ 0 → n ≡ 2 * (n / 2)
+    whole n e = omega arith
 
-    go : (m x y : ℕ) → n ≡ 2 * m → m * m ≡ x * (y * y) → 4 ^ suc R ≡ 4 * x → n * n ≡ 4 ^ suc R * (y * y)
-    go m x y e a b = rw (e, b) (omega arith)
+    go : (a b x y : ℕ) → h ≡ 2 * a → w ≡ 2 * b → b * a ≡ x * y → 4 ^ suc R ≡ 4 * x → w * h ≡ 4 ^ suc R * y
+    go a b x y d e c g = rw (d, e, g) (omega arith)
 
 -- the limit of the quota is the number of tetrolet entries
-pub quota-limit : (R n : ℕ) → Fits R n n → quotaLimit n R ≡ length (tetroletPlaces R n n)
-quota-limit R n f =
-    let a = div-eq-of-eq-mul-right (one-le-pow R 4 (omega arith)) (area R n f) in
-    let b = places-count 0 R n n f in
-    go (halved R n * halved R n) a b
+pub quota-limit : (R h w : ℕ) → Fits R h w → quotaLimit h w R ≡ length (tetroletPlaces R h w)
+quota-limit R h w f =
+    let a = div-eq-of-eq-mul-right (one-le-pow R 4 (omega arith)) (area R h w f) in
+    let b = places-count 0 R h w f in
+    go (halved R w * halved R h) a b
   where
-    go : (y : ℕ) → n * n / 4 ^ R ≡ y → length (tetroletPlaces R n n) + y ≡ n * n → n * n - n * n / 4 ^ R ≡ length (tetroletPlaces R n n)
+    go : (y : ℕ) → w * h / 4 ^ R ≡ y → length (tetroletPlaces R h w) + y ≡ w * h → w * h - w * h / 4 ^ R ≡ length (tetroletPlaces R h w)
     go y a b = omega arith
 
-pub area-small : (n : ℕ) → n ≤ 512 → n * n ≤ 262144
-area-small n h = mul-le-mul h h
-
-pub few-places : (R n : ℕ) → Passed n R → length (tetroletPlaces R n n) ≤ 262144
-few-places R n q = let a = places-count 0 R n n (q .fits) in let b = area-small n (q .small) in omega arith
+pub few-places : (R h w : ℕ) → Passed h w R → length (tetroletPlaces R h w) ≤ 262144
+few-places R h w q = let a = places-count 0 R h w (q .fits) in let b = q .area in omega arith

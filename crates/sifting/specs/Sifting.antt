@@ -8,18 +8,18 @@ use lib.Dec.{eqb, leb, ltb}
 use lib.IntN.{ℤ}
 use lib.ListN.{length, getD}
 use Rattle.integers.specs.Sum.{Σℕ}
-use Rattle.pyramid.specs.Sides.{isSide, isDepth}
+use Rattle.pyramid.specs.Sides.{isSides, isDepth}
 use Rattle.pyramid.specs.Ranges.{inRange}
 use Rattle.pyramid.specs.Slices.{imageOf, sliceOf}
 use Rattle.quota.specs.Quota.{ranks, select, entriesOf}
 use Rattle.sifting.specs.declared.ranks.Found.{Found}
 
 -- What the checks 1, 2, 3 and 6 leave.
-pub record Ready (side levels : ℕ) (plane : List ℤ) : Type 0 where
-  pub side-is : isSide side ≡ true
-  pub depth-is : isDepth levels side side ≡ true
-  pub long : length plane ≡ side * side
-  pub range : inRange levels side side (imageOf side plane) ≡ true
+pub record Ready (height width levels : ℕ) (plane : List ℤ) : Type 0 where
+  pub sided : isSides height width ≡ true
+  pub deep : isDepth levels height width ≡ true
+  pub long : length plane ≡ width * height
+  pub range : inRange levels height width (imageOf height plane) ≡ true
 
 -- How many ranks are above t, and how many of the first n are t.
 abbrev pub above : List ℕ → ℕ → ℕ
@@ -70,9 +70,9 @@ pub record Inside (q : List ℕ) (K w : ℕ) (at : Found) : Type 0 where
 abbrev pub sifts : ℕ → ℕ → List ℕ → ℕ → Bool
 sifts limit left q n = ltb 0 (getD q n 0) && (ltb limit (getD q n 0) || (eqb limit (getD q n 0) && ltb (ties q limit n) left))
 
-abbrev pub siftedOf : ℕ → ℕ → ℕ → ℕ → List ℤ → List ℤ
-siftedOf R n limit left p = let q = ranks R n n (imageOf n p) in sliceOf n n (select R n n (sifts limit left q) (imageOf n p))
+abbrev pub siftedOf : ℕ → ℕ → ℕ → ℕ → ℕ → List ℤ → List ℤ
+siftedOf R h w limit left p = let q = ranks R h w (imageOf h p) in sliceOf h w (select R h w (sifts limit left q) (imageOf h p))
 
-pub record Sifted (R n limit left : ℕ) (plane plane′ : List ℤ) (count : ℕ) : Type 0 where
-  pub planes : plane′ ≡ siftedOf R n limit left plane
-  pub counts : count ≡ entriesOf R n n plane′
+pub record Sifted (R h w limit left : ℕ) (plane plane′ : List ℤ) (count : ℕ) : Type 0 where
+  pub planes : plane′ ≡ siftedOf R h w limit left plane
+  pub counts : count ≡ entriesOf R h w plane′

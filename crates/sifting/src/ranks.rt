@@ -4,7 +4,7 @@ ghost use mathlib.Core.Bool.{true};
 ghost use Prim.Native.Nat.{ℕ, _+_, _*_, _-_, _/_, _^_, _<_, _≤_};
 ghost use lib.IntN.{natAbs};
 ghost use lib.ListN.{length};
-ghost use Rattle.pyramid.specs.Sides.{isSide, isDepth};
+ghost use Rattle.pyramid.specs.Sides.{isSides, isDepth};
 ghost use Rattle.pyramid.specs.Places.{tetroletPlaces};
 ghost use Rattle.pyramid.specs.Slices.{imageOf};
 ghost use Rattle.quota.specs.Quota.{ranks, quotaLimit};
@@ -29,11 +29,11 @@ pub fn doubled(r: u32) -> u64
 }
 
 // How many tetrolet entries a plane has. Two wrong answers that the contract rules out: the entries of one level; those of the low-pass too.
-pub fn most_entries(side: u32, levels: u32) -> u64
-    requires { ⌜ (isSide side ≡ true) × (isDepth levels side side ≡ true) ⌝ }
-    ensures { λ r. ⌜ (r ≡ quotaLimit side levels) × (r ≡ length (tetroletPlaces levels side side)) ⌝ }
+pub fn most_entries(height: u32, width: u32, levels: u32) -> u64
+    requires { ⌜ (isSides height width ≡ true) × (isDepth levels height width ≡ true) ⌝ }
+    ensures { λ r. ⌜ (r ≡ quotaLimit height width levels) × (r ≡ length (tetroletPlaces levels height width)) ⌝ }
 {
-    let area = (side * side) as u64;
+    let area = (width * height) as u64;
     area - area / places::checks::power(levels)
 }
 
@@ -66,18 +66,26 @@ fn count_rank(counts: &mut [u32; 512], rank: u64, base: u64, shift: u64)
 }
 
 // How many tetrolet entries rank in each of 512 runs of 2^shift ranks from `base` on.
-fn count_runs(side: u32, levels: u32, plane: &[i64], base: u64, shift: u64, counts: &mut [u32; 512])
-    requires { ⌜ Ready side levels (now plane) ⌝ }
+fn count_runs(
+    height: u32,
+    width: u32,
+    levels: u32,
+    plane: &[i64],
+    base: u64,
+    shift: u64,
+    counts: &mut [u32; 512],
+)
+    requires { ⌜ Ready height width levels (now plane) ⌝ }
     requires { ⌜ (shift ≤ 18) × Zeros (now counts) ⌝ }
-    ensures { λ _. ⌜ RunCounts (ranks levels side side (imageOf side (now (plane .entry)))) base (2 ^ shift) (now (counts .exit)) ⌝ }
+    ensures { λ _. ⌜ RunCounts (ranks levels height width (imageOf height (now (plane .entry)))) base (2 ^ shift) (now (counts .exit)) ⌝ }
 {
-    let mut k = places::walk::first_tetrolet(side, levels);
+    let mut k = places::walk::first_tetrolet(height, width, levels);
     while 0 < k.left {
-        let i = places::checks::index_of(k, side);
+        let i = places::checks::index_of(k, height, width);
         let v = plane[i];
         let r = rank_of(v, levels, k.level);
         count_rank(counts, r, base, shift);
-        k = places::walk::step(k, side);
+        k = places::walk::step(k, height, width);
     }
 }
 
@@ -89,7 +97,8 @@ pub struct Found {
 
 // Finds the limit to a run of `step` ranks, 2^shift, among the 512 runs from `base` on.
 fn narrowed(
-    side: u32,
+    height: u32,
+    width: u32,
     levels: u32,
     plane: &[i64],
     at: Found,
@@ -97,15 +106,15 @@ fn narrowed(
     step: u64,
     quota: u64,
 ) -> Found
-    requires { ⌜ Ready side levels (now plane) ⌝ }
+    requires { ⌜ Ready height width levels (now plane) ⌝ }
     requires { ⌜ (shift ≤ 18) × (step ≡ 2 ^ shift) × (at .base + 512 * step ≤ 134217728) ⌝ }
-    requires { ⌜ Inside (ranks levels side side (imageOf side (now plane))) quota (512 * step) at ⌝ }
-    ensures { λ r. ⌜ Inside (ranks levels side side (imageOf side (now (plane .entry)))) quota step r ⌝ }
+    requires { ⌜ Inside (ranks levels height width (imageOf height (now plane))) quota (512 * step) at ⌝ }
+    ensures { λ r. ⌜ Inside (ranks levels height width (imageOf height (now (plane .entry)))) quota step r ⌝ }
     ensures { λ r. ⌜ r .base + step ≤ at .base + 512 * step ⌝ }
 {
     let base = at.base;
     let mut counts = [0u32; 512];
-    count_runs(side, levels, plane, base, shift, &mut counts);
+    count_runs(height, width, levels, plane, base, shift, &mut counts);
     let mut j: usize = 511;
     let mut total = at.over;
     while 0 < j {
@@ -128,12 +137,12 @@ fn narrowed(
 // The rank at which keep begins to drop entries: the least with at most `quota` ranks above it, found by its three digits to the base 512;
 // and how many ranks are above it.
 // Two wrong answers that the contract rules out: a rank that leaves more than `quota` entries above it; one where a lesser rank would do.
-pub fn limit_of(side: u32, levels: u32, plane: &[i64], quota: u64) -> Found
-    requires { ⌜ Ready side levels (now plane) ⌝ }
-    ensures { λ r. ⌜ Limit (ranks levels side side (imageOf side (now (plane .entry)))) quota (r .base) (r .over) ⌝ }
+pub fn limit_of(height: u32, width: u32, levels: u32, plane: &[i64], quota: u64) -> Found
+    requires { ⌜ Ready height width levels (now plane) ⌝ }
+    ensures { λ r. ⌜ Limit (ranks levels height width (imageOf height (now (plane .entry)))) quota (r .base) (r .over) ⌝ }
 {
     let all = Found { base: 0, over: 0 };
-    let first = narrowed(side, levels, plane, all, 18, 262144, quota);
-    let second = narrowed(side, levels, plane, first, 9, 512, quota);
-    narrowed(side, levels, plane, second, 0, 1, quota)
+    let first = narrowed(height, width, levels, plane, all, 18, 262144, quota);
+    let second = narrowed(height, width, levels, plane, first, 9, 512, quota);
+    narrowed(height, width, levels, plane, second, 0, 1, quota)
 }

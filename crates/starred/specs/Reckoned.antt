@@ -48,7 +48,7 @@ wavelets s = let p = planeOf 1 4 4 s in getD p (2 * 4 + 0) (pos 0) ∷ getD p (0
 abbrev pub dotKept : List ℤ
 dotKept = keptOf 1 4 4 1 (planeOf 1 4 4 (dot 0))
 
--- A plane of side 8 and two levels, all 0 but a W1 of level 2, which is 5, in column 2, row 0, and a W1 of level 1, which is 3, in column 4, row 0.
+-- A plane of 8 by 8 and two levels, all 0 but a W1 of level 2, which is 5, in column 2, row 0, and a W1 of level 1, which is 3, in column 4, row 0.
 abbrev pub twoLevels : List ℤ
 twoLevels = numbers (replicate 16 0 ++ (5 ∷ replicate 15 0) ++ (3 ∷ replicate 31 0))
 

@@ -103,7 +103,7 @@ fn merge_column(
     }
 }
 
-// The blocks of a level, from the bands in `image` to the square of `tall` rows and `wide` columns in `out`.
+// The blocks of a level, from the bands in `image` to the rectangle of `tall` rows and `wide` columns in `out`.
 // Two wrong answers that the contract rules out: the last block column left out; and the blocks' coverings taken along rows.
 fn merge_level(
     cells: &[u8; 1872],
@@ -139,8 +139,8 @@ fn merge_level(
     }
 }
 
-// One level up: its bands, merged to the scratch, and the square of `tall` rows and `wide` columns copied back.
-// Two wrong answers that the contract rules out: the square left in the scratch; and the entries outside the square changed.
+// One level up: its bands, merged to the scratch, and the rectangle of `tall` rows and `wide` columns copied back.
+// Two wrong answers that the contract rules out: the rectangle left in the scratch; and the entries outside the rectangle changed.
 fn rise(
     cells: &[u8; 1872],
     height: usize,

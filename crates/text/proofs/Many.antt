@@ -9,11 +9,11 @@ use lib.ListN.{getD, length, length-append, drop, drop-of-length-le}
 use Rattle.text.specs.Text.{Parsed, bad, got, andThen, row, many, rows, any, rowText, rowsText, skip, Column, plain, signed, limit, FitsRow, FitsValue}
 use Rattle.text.specs.At.{skipOf, skipAt}
 use Rattle.text.specs.declared.names.Skip.the-variants.{To, Bad as NotThere}
-use Rattle.text.specs.declared.lines.Two.{Two}
-use Rattle.text.specs.declared.lines.LineOfTwo.the-variants.{Of as OfTwo, Bad as NoTwo}
+use Rattle.text.specs.declared.lines.Three.{Three}
+use Rattle.text.specs.declared.lines.LineOfThree.the-variants.{Of as OfThree, Bad as NoThree}
 use Rattle.text.proofs.Exact.{skip-sound}
 use Rattle.text.proofs.Read.{bad-got}
-use Rattle.text.specs.Lines.{two, four, five, twoOf, twoAt, fourOf, fourAt, fiveOf, fiveAt, pastOf, cellAt, linesOf, linesAt}
+use Rattle.text.specs.Lines.{three, four, five, threeOf, threeAt, fourOf, fourAt, fiveOf, fiveAt, pastOf, cellAt, linesOf, linesAt}
 use Rattle.text.specs.declared.lines.Four.{Four}
 use Rattle.text.specs.declared.lines.Five.{Five}
 use Rattle.text.specs.declared.lines.LineOfFour.the-variants.{Of as OfFour, Bad as NoFour}
@@ -127,7 +127,7 @@ past-stop ks s p h e = sym (ap (pastOf (length s)) (rows-none ks (drop p s) e) �
 pub past-end : (ks : List Column) (s : List ℕ) (p : ℕ) → 0 < length ks → p ≤ length s → length s ≤ p → p ≡ pastOf (length s) (rows any ks (drop p s))
 past-end ks s p k h l = past-stop ks s p h (ap (row ks) (drop-of-length-le s l) ∙ row-stops ks [] k stops-nil)
 
--- ---- names, a line of two, and lines, at a place
+-- ---- names, a line of three, and lines, at a place
 
 pub record SkipRead (ns s : List ℕ) (at next : ℕ) : Type 0 where
   pub read : skip ns (drop at s) ≡ got tt (drop next s)
@@ -149,22 +149,22 @@ skip-no n (got u r) e = absurd (let z : _≡_ {A = ℕ} 0 1 = cc in omega arith)
 pub skip-none : (ns s : List ℕ) (at : ℕ) → skipAt s at ns ≡ NotThere → skip ns (drop at s) ≡ bad
 skip-none ns s at e = skip-no (length s) (skip ns (drop at s)) e
 
-two-got : (s : List ℕ) (at : ℕ) (o : Parsed (List ℤ)) (f : Two) → row two (drop at s) ≡ o → twoOf (length s) o ≡ OfTwo f → RowRead two s at (f .next)
-two-got s at bad f h e = absurd (let z : _≡_ {A = ℕ} 0 1 = cc in omega arith)
-two-got s at (got v r) f h e = row-read two s at (f .next) v r (omega arith) h (sym (ap (λ x. x .next) (the e)))
+three-got : (s : List ℕ) (at : ℕ) (o : Parsed (List ℤ)) (f : Three) → row three (drop at s) ≡ o → threeOf (length s) o ≡ OfThree f → RowRead three s at (f .next)
+three-got s at bad f h e = absurd (let z : _≡_ {A = ℕ} 0 1 = cc in omega arith)
+three-got s at (got v r) f h e = row-read three s at (f .next) v r (omega arith) h (sym (ap (λ x. x .next) (the e)))
   where
-    the : {x y : Two} → OfTwo x ≡ OfTwo y → x ≡ y
+    the : {x y : Three} → OfThree x ≡ OfThree y → x ≡ y
     the q = cc
 
-pub two-at : (s : List ℕ) (at : ℕ) (f : Two) → twoAt s at ≡ OfTwo f → RowRead two s at (f .next)
-two-at s at f e = two-got s at (row two (drop at s)) f refl e
+pub three-at : (s : List ℕ) (at : ℕ) (f : Three) → threeAt s at ≡ OfThree f → RowRead three s at (f .next)
+three-at s at f e = three-got s at (row three (drop at s)) f refl e
 
-two-no : (n : ℕ) (o : Parsed (List ℤ)) → twoOf n o ≡ NoTwo → o ≡ bad
-two-no n bad e = refl
-two-no n (got v r) e = absurd (let z : _≡_ {A = ℕ} 0 1 = cc in omega arith)
+three-no : (n : ℕ) (o : Parsed (List ℤ)) → threeOf n o ≡ NoThree → o ≡ bad
+three-no n bad e = refl
+three-no n (got v r) e = absurd (let z : _≡_ {A = ℕ} 0 1 = cc in omega arith)
 
-pub two-none : (s : List ℕ) (at : ℕ) → twoAt s at ≡ NoTwo → row two (drop at s) ≡ bad
-two-none s at e = two-no (length s) (row two (drop at s)) e
+pub three-none : (s : List ℕ) (at : ℕ) → threeAt s at ≡ NoThree → row three (drop at s) ≡ bad
+three-none s at e = three-no (length s) (row three (drop at s)) e
 
 -- lines that there may be any number of are never bad
 many-good : (n : ℕ) (ks : List Column) (t : List ℕ) → many n ks t ≡ bad → ⊥
@@ -280,23 +280,30 @@ five-line s at f e = go (row five (drop at s)) refl e
           small = five-small v (row-sound five (drop at s) v r h .fits);
         }
 
-pub record TwoLine (s : List ℕ) (at : ℕ) (f : Two) : Type 0 where
+pub record ThreeLine (s : List ℕ) (at : ℕ) (f : Three) : Type 0 where
   pub cells : List ℤ
-  pub read : row two (drop at s) ≡ got cells (drop (f .next) s)
+  pub read : row three (drop at s) ≡ got cells (drop (f .next) s)
   pub first : f .first ≡ cellAt cells 0
   pub second : f .second ≡ cellAt cells 1
+  pub third : f .third ≡ cellAt cells 2
 
-pub two-line : (s : List ℕ) (at : ℕ) (f : Two) → twoAt s at ≡ OfTwo f → TwoLine s at f
-two-line s at f e = go (row two (drop at s)) refl e
+pub three-line : (s : List ℕ) (at : ℕ) (f : Three) → threeAt s at ≡ OfThree f → ThreeLine s at f
+three-line s at f e = go (row three (drop at s)) refl e
   where
-    the : {x y : Two} → OfTwo x ≡ OfTwo y → x ≡ y
+    the : {x y : Three} → OfThree x ≡ OfThree y → x ≡ y
     the q = cc
 
-    go : (o : Parsed (List ℤ)) → row two (drop at s) ≡ o → twoOf (length s) o ≡ OfTwo f → TwoLine s at f
+    go : (o : Parsed (List ℤ)) → row three (drop at s) ≡ o → threeOf (length s) o ≡ OfThree f → ThreeLine s at f
     go bad h g = absurd (let z : _≡_ {A = ℕ} 0 1 = cc in omega arith)
     go (got v r) h g =
         let i = the g in
-        record { cells = v; read = row-is two s at (f .next) v r h (sym (ap (λ x. x .next) i)); first = sym (ap (λ x. x .first) i); second = sym (ap (λ x. x .second) i) }
+        record {
+          cells = v;
+          read = row-is three s at (f .next) v r h (sym (ap (λ x. x .next) i));
+          first = sym (ap (λ x. x .first) i);
+          second = sym (ap (λ x. x .second) i);
+          third = sym (ap (λ x. x .third) i);
+        }
 
 pub lines-read : (ks : List Column) (s : List ℕ) (at next : ℕ) (r : RowsRead ks s at next) → linesAt ks s at ≡ r .lines
 unfolding linesAt

@@ -111,6 +111,10 @@ pub two-row : (a b : ℕ) → rowText (pos a ∷ pos b ∷ []) ≡ cellText a 32
 unfolding rowText valueText after
 two-row a b = sym (append-snoc (digits a) 32 (cellText b 10))
 
+pub three-row : (a b c : ℕ) → rowText (pos a ∷ pos b ∷ pos c ∷ []) ≡ cellText a 32 ++ (cellText b 32 ++ cellText c 10)
+unfolding rowText valueText after
+three-row a b c = rw (append-snoc (digits a) 32 (cellText b 32 ++ cellText c 10), append-snoc (digits b) 32 (cellText c 10))
+
 pub four-row : (a b c d : ℕ) → rowText (pos a ∷ pos b ∷ pos c ∷ pos d ∷ []) ≡ fourText a b c d 10
 unfolding rowText valueText after
 four-row a b c d =

@@ -1,19 +1,19 @@
--- Lines that the code reads at a place: a line of two numbers, of four, and of four and a signed value. Assumes nothing.
+-- Lines that the code reads at a place: a line of three numbers, of four, and of four and a signed value. Assumes nothing.
 use Prim.Native.Nat.{ℕ, _-_}
 use mathlib.Core.List.{List, [], _∷_}
 use lib.IntN.{ℤ, pos, natAbs}
 use lib.ListN.{length, drop, getD}
 use Rattle.text.specs.Text.{Parsed, bad, got, Column, signed, plain, row, rows, any}
-use Rattle.text.specs.declared.lines.LineOfTwo.{LineOfTwo}
-use Rattle.text.specs.declared.lines.LineOfTwo.the-variants.{Of as OfTwo, Bad as NoTwo}
+use Rattle.text.specs.declared.lines.LineOfThree.{LineOfThree}
+use Rattle.text.specs.declared.lines.LineOfThree.the-variants.{Of as OfThree, Bad as NoThree}
 use Rattle.text.specs.declared.lines.LineOfFour.{LineOfFour}
 use Rattle.text.specs.declared.lines.LineOfFour.the-variants.{Of as OfFour, Bad as NoFour}
 use Rattle.text.specs.declared.lines.LineOfFive.{LineOfFive}
 use Rattle.text.specs.declared.lines.LineOfFive.the-variants.{Of as OfFive, Bad as NoFive}
 
 -- What the columns of these lines may hold: a minus in the last of five alone.
-abbrev pub two : List Column
-two = plain ∷ plain ∷ []
+abbrev pub three : List Column
+three = plain ∷ plain ∷ plain ∷ []
 
 abbrev pub four : List Column
 four = plain ∷ plain ∷ plain ∷ plain ∷ []
@@ -24,12 +24,12 @@ five = plain ∷ plain ∷ plain ∷ plain ∷ signed ∷ []
 abbrev pub cellAt : List ℤ → ℕ → ℕ
 cellAt r i = natAbs (getD r i (pos 0))
 
-abbrev pub twoOf : ℕ → Parsed (List ℤ) → LineOfTwo
-twoOf n bad = NoTwo
-twoOf n (got v r) = OfTwo (record { first = cellAt v 0; second = cellAt v 1; next = n - length r })
+abbrev pub threeOf : ℕ → Parsed (List ℤ) → LineOfThree
+threeOf n bad = NoThree
+threeOf n (got v r) = OfThree (record { first = cellAt v 0; second = cellAt v 1; third = cellAt v 2; next = n - length r })
 
-abbrev pub twoAt : List ℕ → ℕ → LineOfTwo
-twoAt s at = twoOf (length s) (row two (drop at s))
+abbrev pub threeAt : List ℕ → ℕ → LineOfThree
+threeAt s at = threeOf (length s) (row three (drop at s))
 
 abbrev pub fourOf : ℕ → Parsed (List ℤ) → LineOfFour
 fourOf n bad = NoFour

@@ -1,6 +1,6 @@
 // Planes, of which the largest entries are kept or which are cut by a threshold, by the coder and by the plain second implementation.
-use case_planes::case_at;
 use case_planes::fill;
+use case_planes::sparse_case_at;
 use cases::answers::outcome;
 use cases::answers::settled;
 use cases::inputs::Case;
@@ -10,15 +10,15 @@ use cases::tally::same_values;
 
 // Both keep the largest of a plane, which stands in two slices.
 fn both_keep(k: Case, plane: &mut [i64], plane2: &mut [i64], quota: u64) -> Verdict {
-    let x = outcome(keeping::keep(k.side, k.levels, plane, quota));
-    let y = plain::cut::keep(k.side, k.levels, plane2, quota);
+    let x = outcome(keeping::keep(k.height, k.width, k.levels, plane, quota));
+    let y = plain::cut::keep(k.height, k.width, k.levels, plane2, quota);
     settled(x, y, same_values(plane, plane2))
 }
 
 // Both cut a plane, which stands in two slices.
 fn both_cut(k: Case, plane: &mut [i64], plane2: &mut [i64], limit: u64) -> Verdict {
-    let x = outcome(keeping::threshold(k.side, k.levels, plane, limit));
-    let y = plain::cut::cut(k.side, k.levels, plane2, limit);
+    let x = outcome(keeping::threshold(k.height, k.width, k.levels, plane, limit));
+    let y = plain::cut::cut(k.height, k.width, k.levels, plane2, limit);
     settled(x, y, same_values(plane, plane2))
 }
 
@@ -73,26 +73,27 @@ fn compare(k: Case, keeps: bool, number: u64) -> Verdict {
     both_cut(k, &mut plane[..n], &mut plane2[..n], number)
 }
 
-// The planes of the group `restore`, each with every quota.
+// Some planes of the group `restore`, each with every quota.
 pub fn keep_group() -> Tally {
     let mut t = cases::tally::none();
     let mut c: usize = 0;
-    while c < 3528 {
-        let k = cases::inputs::smaller(case_at(c / 6), c / 6);
+    while c < 9216 {
+        let k = cases::inputs::smaller(sparse_case_at(c / 6));
         let v = compare(k, true, quota(k, c % 6));
-        t = cases::tally::counted(t, v);
+        t = cases::tally::counted_case(t, k, v);
         c += 1;
     }
     t
 }
 
-// The planes of the group `restore`, each with every threshold.
+// Some planes of the group `restore`, each with every threshold.
 pub fn threshold_group() -> Tally {
     let mut t = cases::tally::none();
     let mut c: usize = 0;
-    while c < 3528 {
-        let v = compare(case_at(c / 6), false, limit(c % 6));
-        t = cases::tally::counted(t, v);
+    while c < 9216 {
+        let k = sparse_case_at(c / 6);
+        let v = compare(k, false, limit(c % 6));
+        t = cases::tally::counted_case(t, k, v);
         c += 1;
     }
     t

@@ -1,7 +1,7 @@
 // Pictures, decomposed by the coder and by the plain second implementation.
 use case_planes::decompose;
 use cases::inputs::Case;
-use cases::inputs::case_of;
+use cases::inputs::case_at;
 use cases::inputs::fill_picture;
 use cases::tally::Tally;
 use cases::tally::Verdict;
@@ -33,7 +33,8 @@ fn decompose_plainly(
     }
     plain::pyramid::decompose(
         words,
-        k.side,
+        k.height,
+        k.width,
         k.levels,
         &samples[..n],
         &mut plane[..n],
@@ -71,22 +72,14 @@ fn one_picture(words: &[u8], k: Case) -> Verdict {
     compare(words, k, &samples)
 }
 
-// Case c of this group: every side, levels from none to five, every kind of picture.
-fn case_at(c: usize) -> Case {
-    case_of(
-        cases::inputs::side_of(c % 7),
-        c / 7 % 6,
-        c / 42 % 8,
-        cases::inputs::mixed(c),
-    )
-}
-
+// Every height with every width, levels from none to five, every kind of picture.
 pub fn group(words: &[u8]) -> Tally {
     let mut t = cases::tally::none();
     let mut c: usize = 0;
-    while c < 6720 {
-        let v = one_picture(words, case_at(c));
-        t = cases::tally::counted(t, v);
+    while c < 15360 {
+        let k = case_at(c, 8);
+        let v = one_picture(words, k);
+        t = cases::tally::counted_case(t, k, v);
         c += 1;
     }
     t

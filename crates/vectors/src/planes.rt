@@ -22,7 +22,8 @@ fn both(
     scratch2: &mut [i64],
 ) -> Verdict {
     let a = refusals::code(coder::restore(
-        k.side,
+        k.height,
+        k.width,
         k.levels,
         plane,
         coverings,
@@ -32,7 +33,8 @@ fn both(
     ));
     let b = plain::pyramid::restore(
         words,
-        k.side,
+        k.height,
+        k.width,
         k.levels,
         plane,
         coverings,
@@ -90,9 +92,10 @@ fn one_plane(words: &[u8], k: Case) -> Verdict {
 pub fn group(words: &[u8]) -> Tally {
     let mut t = cases::tally::none();
     let mut c: usize = 0;
-    while c < 5880 {
-        let v = one_plane(words, case_at(c));
-        t = cases::tally::counted(t, v);
+    while c < 16128 {
+        let k = case_at(c);
+        let v = one_plane(words, k);
+        t = cases::tally::counted_case(t, k, v);
         c += 1;
     }
     t

@@ -41,7 +41,7 @@ pub fn usage_group() -> Tally {
     let mut t = cases::tally::none();
     let mut c: usize = 0;
     while c < 1536 {
-        let k = cases::inputs::case_of(32, 4, 8, cases::inputs::mixed(c));
+        let k = cases::inputs::case_of(32, 32, 4, 8, cases::inputs::mixed(c));
         let v = listed_alike(k, c * 5 % 513, room_of(c));
         t = cases::tally::counted(t, v);
         c += 1;

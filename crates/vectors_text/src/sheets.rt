@@ -1,6 +1,6 @@
 // Tetrolet sheets, written and read by the coder and by the plain second implementation.
-use case_planes::case_at;
 use case_planes::fill;
+use case_planes::sparse_case_at;
 use cases::answers::nothing;
 use cases::answers::outcome;
 use cases::answers::settled;
@@ -33,7 +33,14 @@ fn put_sheet(k: Case, text: &mut [u8]) -> usize {
     let mut plane = [0i64; 1024];
     let mut coverings = [1u8; 512];
     fill(k, &mut plane, &mut coverings);
-    let r = outcome(sheet::write(k.side, k.levels, &plane[..n], &coverings[..b], text));
+    let r = outcome(sheet::write(
+        k.height,
+        k.width,
+        k.levels,
+        &plane[..n],
+        &coverings[..b],
+        text,
+    ));
     r.a
 }
 
@@ -50,8 +57,8 @@ fn both_write(
     buffer: &mut [u8],
     buffer2: &mut [u8],
 ) -> Verdict {
-    let x = outcome(sheet::write(k.side, k.levels, plane, coverings, buffer));
-    let y = plain_text::writing::write(k.side, k.levels, plane, coverings, buffer2);
+    let x = outcome(sheet::write(k.height, k.width, k.levels, plane, coverings, buffer));
+    let y = plain_text::writing::write(k.height, k.width, k.levels, plane, coverings, buffer2);
     settled(x, y, same_bytes(buffer, buffer2))
 }
 
@@ -96,14 +103,14 @@ fn written_alike(k: Case, room: usize) -> Verdict {
     compare_writing(k, &plane[..n], &coverings[..b], room)
 }
 
-// The planes of the group `restore`, each with every room.
+// Some planes of the group `restore`, each with every room.
 pub fn write_group() -> Tally {
     let mut t = cases::tally::none();
     let mut c: usize = 0;
-    while c < 2352 {
-        let k = case_at(c / 4);
+    while c < 6144 {
+        let k = sparse_case_at(c / 4);
         let v = written_alike(k, room_of(sheet_length(k), c % 4));
-        t = cases::tally::counted(t, v);
+        t = cases::tally::counted_case(t, k, v);
         c += 1;
     }
     t
@@ -112,10 +119,15 @@ pub fn write_group() -> Tally {
 // A reading as the second implementation gives it.
 fn told(r: Reading) -> Outcome {
     match r {
-        Reading::Sheet { side, levels } => Outcome {
+        Reading::Sheet {
+            height,
+            width,
+            levels,
+        } => Outcome {
             refusal: 0,
-            a: side,
-            b: levels,
+            a: height,
+            b: width,
+            c: levels,
         },
         Reading::Refused(r) => nothing(refusals::number(r) as u32),
     }
@@ -231,15 +243,16 @@ fn read_alike(k: Case, way: usize, random: usize) -> Verdict {
     compare_reading(k, &text[..end])
 }
 
-// The planes of the group `restore`, each with every damage.
+// Some planes of the group `restore`, each with every damage.
 pub fn read_group() -> Tally {
     let mut t = cases::tally::none();
     let mut x: usize = 1;
     let mut c: usize = 0;
-    while c < 3528 {
+    while c < 9216 {
         x = next(x);
-        let v = read_alike(smaller(case_at(c / 6), x / 65536), c % 6, x);
-        t = cases::tally::counted(t, v);
+        let k = smaller(sparse_case_at(c / 6));
+        let v = read_alike(k, c % 6, x);
+        t = cases::tally::counted_case(t, k, v);
         c += 1;
     }
     t

@@ -11,7 +11,7 @@ use Rattle.slices.specs.Stores.{rectangles}
 use Rattle.tables.specs.Tables.{placementTable, fourTable, cellTable}
 use Rattle.pyramid.specs.Plane.{allBlocks, blocks}
 use Rattle.analysis.proofs.Bandwise.{blocks-few}
-use Rattle.analysis.proofs.Descend.{Descended, descend-start, descend-small, descend-room, descend-step, descend-square, descend-plane, descend-covers}
+use Rattle.analysis.proofs.Descend.{Descended, descend-start, descend-small, descend-room, descend-step, descend-region, descend-plane, descend-covers}
 use Rattle.pyramid.proofs.Sides.{sized, sized-fits, side-small, levels-small}
 use Rattle.analysis.proofs.decompose_all.Statement.{statement}
 use Rattle.analysis.proofs.decompose_all.Tie as tie
@@ -69,20 +69,20 @@ forward-level-requires c κs =
     let s = c .before .before .before .before .before .before .before .before .before .before .before .before .before .before .before .before in
     let inv = c .before .before .before .before .before .before .before .loop .inv in
     let d = next (c .before .before .before .before .before .before .before .loop .left) (omega arith) (inv .9) in
-    ((inv .3, inv .4, inv .5), (descend-square _ _ (inv .1) (inv .2) (inv .6) (inv .8) d, rw (inv .7) (descend-room _ _ _ _ _ _ _ _ _ _ d), descend-small (inv .0) d))
+    ((inv .3, inv .4, inv .5), (descend-region _ _ (inv .1) (inv .2) (inv .6) (inv .8) d, rw (inv .7) (descend-room _ _ _ _ _ _ _ _ _ _ d), descend-small (inv .0) d))
 
 copy-rectangle-requires : tie.Need-copy-rectangle-requires Inv-loop μ-loop
 copy-rectangle-requires c κs =
     let inv = c .before .before .before .before .before .before .before .before .before .before .before .before .before .loop .inv in
     let d = next (c .before .before .before .before .before .before .before .before .before .before .before .before .before .loop .left) (omega arith) (inv .9) in
-    let q = descend-square _ _ (inv .1) (inv .2) (inv .6) (inv .8) d in
+    let q = descend-region _ _ (inv .1) (inv .2) (inv .6) (inv .8) d in
     (q .inside, le-trans (q .stored) (le-of-eq (sym (c .before .before .before .before .before .forward-level .kept .1 .1 .1 .1 .1 .1 .1 .1 .1 .0))), q .read)
 
 mul-first : tie.Need-mul-first Inv-loop μ-loop
 mul-first c =
     let inv = c .before .before .before .before .before .before .before .before .before .before .before .before .before .before .before .loop .inv in
     let d = next (c .before .before .before .before .before .before .before .before .before .before .before .before .before .before .before .loop .left) (omega arith) (inv .9) in
-    omega (arith, blocks-few (descend-square _ _ (inv .1) (inv .2) (inv .6) (inv .8) d))
+    omega (arith, blocks-few (descend-region _ _ (inv .1) (inv .2) (inv .6) (inv .8) d))
 
 add-first : tie.Need-add-first Inv-loop μ-loop
 add-first c =

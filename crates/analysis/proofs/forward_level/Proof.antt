@@ -7,7 +7,7 @@ use lib.ListN.{length, length-set}
 use borrow.Author.Needs.{needs}
 use Rattle.pyramid.specs.Plane.{blocks}
 use Rattle.pyramid.specs.Slices.{imageOf}
-use Rattle.analysis.proofs.Bandwise.{square-in, blocks-few}
+use Rattle.analysis.proofs.Bandwise.{region-in, blocks-few}
 use Rattle.analysis.proofs.Levelwise.{Walked, walk-start, col-in, counts-small, walk-down, walk-across, walk-end}
 use Rattle.analysis.proofs.forward_level.Statement.{statement}
 use Rattle.analysis.proofs.forward_level.Tie as tie
@@ -34,7 +34,7 @@ forward-block-requires c κs =
     let s = c .before .before .before .before .before in
     let inv = c .before .before .loop .inv in
     let l : c .before .before .loop .k < blocks (s .args .tall) (s .args .wide) = omega arith in
-    (s .pre .0, (square-in (s .pre .1 .0) (inv .1), inv .4 .row l, col-in (s .pre .1 .0) _ _ _ _ _ _ _ _ (inv .4) l, s .pre .1 .2))
+    (s .pre .0, (region-in (s .pre .1 .0) (inv .1), inv .4 .row l, col-in (s .pre .1 .0) _ _ _ _ _ _ _ _ (inv .4) l, s .pre .1 .2))
 
 add-coverings : tie.Need-add-coverings Inv-loop μ-loop
 add-coverings c = omega (arith, c .before .before .before .before .before .before .before .pre .1 .1, c .before .before .before .before .before .before .before .good)

@@ -27,7 +27,7 @@ same-length-2 : tie.Need-same-length-2
 same-length-2 c = search needs
 
 returns : tie.Need-returns
-returns c = found (ReadAnswered _ _ _ _ _) _ (c .before .before .before .before .before .before .read .ensures) _ _ (c .before .answer .given .1)
+returns c = found (ReadAnswered _ _ _ _ _) _ (c .before .before .before .before .before .before .read .ensures) _ _ _ (c .before .answer .given .1)
 
 same-length-3 : tie.Need-same-length-3
 same-length-3 c = search needs
@@ -36,7 +36,7 @@ same-length-4 : tie.Need-same-length-4
 same-length-4 c = search needs
 
 returns-2 : tie.Need-returns-2
-returns-2 c = unfound (ReadAnswered _ _ _ _ _) _ (c .before .before .before .before .before .before .before .read .ensures) _ _ _ _ (c .before .before .answer2 .given .1) (c .number .ensures)
+returns-2 c = unfound (ReadAnswered _ _ _ _ _) _ (c .before .before .before .before .before .before .before .read .ensures) _ _ _ _ _ (c .before .before .answer2 .given .1) (c .number .ensures)
 
 pub tetrolet-read-spec : {M : Type 1} → statement M
 tetrolet-read-spec =

@@ -1,5 +1,4 @@
 -- `chain::chain_checks` meets its contract: each return by what the tests before it found. Assumes nothing.
-use native.Mathlib.Nat.{mul-le-mul}
 use native.Mathlib.Omega.{arith}
 use borrow.Author.Needs.{needs}
 use borrow.Author.Tests.{lt-ltb, le-ltb}
@@ -9,8 +8,8 @@ use Rattle.quota.specs.Quota.{quotaLimit}
 use Rattle.chain.proofs.chain_checks.Statement.{statement}
 use Rattle.chain.proofs.chain_checks.Tie as tie
 
-good : (c : tie.After-enum-told) → let a = c .before .before .before .before .before .before .args in Passed (a .side) (a .levels)
-good c = size-passed _ _ (c .enum-told .given .1) (c .before .before .size-checks .ensures)
+good : (c : tie.After-enum-told) → let a = c .before .before .before .before .before .before .args in Passed (a .height) (a .width) (a .levels)
+good c = size-passed _ _ _ (c .enum-told .given .1) (c .before .before .size-checks .ensures)
 
 size-checks-requires : tie.Need-size-checks-requires
 size-checks-requires c κs = tt
@@ -25,10 +24,10 @@ enum-told : tie.Need-enum-told
 enum-told c = search needs
 
 mul-area : tie.Need-mul-area
-mul-area c = let s = good c .small in omega (arith, mul-le-mul s s)
+mul-area c = omega (arith, good c .area)
 
 count-blocks-requires : tie.Need-count-blocks-requires
-count-blocks-requires c κs = let z = good c in (z .small, omega (arith, z .levels, z .log-high))
+count-blocks-requires c κs = let z = good c in (z .tall, z .wide, z .few)
 
 returns-2 : tie.Need-returns-2
 returns-2 c = let z = good (c .before .before) in rw (z .sided, z .deep, ← c .before .count-blocks .ensures .0, c .if1 .taken)
@@ -40,10 +39,13 @@ returns-3 : tie.Need-returns-3
 returns-3 c = let z = good (c .before .before .before .before) in rw (z .sided, z .deep, ← c .before .before .before .count-blocks .ensures .0, c .before .before .if1 .left, ← c .before .all-samples .ensures, c .if2 .taken)
 
 cast-most-entries : tie.Need-cast-most-entries
-cast-most-entries c = omega (arith, good (c .before .before .before .before) .small)
+cast-most-entries c = omega (arith, good (c .before .before .before .before) .tall)
 
 cast-most-entries-2 : tie.Need-cast-most-entries-2
-cast-most-entries-2 c = let z = good (c .before .before .before .before) in omega (arith, z .levels, z .log-high)
+cast-most-entries-2 c = omega (arith, good (c .before .before .before .before) .wide)
+
+cast-most-entries-3 : tie.Need-cast-most-entries-3
+cast-most-entries-3 c = omega (arith, good (c .before .before .before .before) .few)
 
 most-entries-requires : tie.Need-most-entries-requires
 most-entries-requires c κs = let z = good (c .before .before .before .before) in (z .sided, z .deep)
@@ -52,13 +54,13 @@ returns-4 : tie.Need-returns-4
 returns-4 c =
     let a = c .before .before .before .before .before .before .before .before .before .before .before .before .args in
     let z = good (c .before .before .before .before .before .before) in
-    rw (z .sided, z .deep, ← c .before .before .before .before .before .count-blocks .ensures .0, c .before .before .before .before .if1 .left, ← c .before .before .before .all-samples .ensures, c .before .before .if2 .left, lt-ltb (quotaLimit (a .side) (a .levels)) (a .quota) (omega (arith, c .before .most-entries .ensures .0, c .if3 .taken)))
+    rw (z .sided, z .deep, ← c .before .before .before .before .before .count-blocks .ensures .0, c .before .before .before .before .if1 .left, ← c .before .before .before .all-samples .ensures, c .before .before .if2 .left, lt-ltb (quotaLimit (a .height) (a .width) (a .levels)) (a .quota) (omega (arith, c .before .most-entries .ensures .0, c .if3 .taken)))
 
 returns-5 : tie.Need-returns-5
 returns-5 c =
     let a = c .before .before .before .before .before .before .before .before .before .before .before .before .args in
     let z = good (c .before .before .before .before .before .before) in
-    rw (z .sided, z .deep, ← c .before .before .before .before .before .count-blocks .ensures .0, c .before .before .before .before .if1 .left, ← c .before .before .before .all-samples .ensures, c .before .before .if2 .left, le-ltb (quotaLimit (a .side) (a .levels)) (a .quota) (omega (arith, c .before .most-entries .ensures .0, c .if3 .left)))
+    rw (z .sided, z .deep, ← c .before .before .before .before .before .count-blocks .ensures .0, c .before .before .before .before .if1 .left, ← c .before .before .before .all-samples .ensures, c .before .before .if2 .left, le-ltb (quotaLimit (a .height) (a .width) (a .levels)) (a .quota) (omega (arith, c .before .most-entries .ensures .0, c .if3 .left)))
 
 pub chain-checks-spec : {M : Type 1} → statement M
 chain-checks-spec =
@@ -75,6 +77,7 @@ chain-checks-spec =
     returns-3
     cast-most-entries
     cast-most-entries-2
+    cast-most-entries-3
     most-entries-requires
     returns-4
     returns-5)

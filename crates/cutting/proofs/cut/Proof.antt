@@ -14,8 +14,8 @@ use Rattle.cutting.proofs.cut.Tie as tie
 passed : (k : tie.After-known-told) → Passed (k .before .before .before .before .before .args .text .now) (k .before .found .given .0 .0)
 passed k = subst (Checked (k .before .before .before .before .before .args .text .now)) (k .before .found .given .1) (k .before .before .before .check-header .ensures)
 
-area : (k : tie.After-known-told) → k .before .found .given .0 .0 .side * k .before .found .given .0 .0 .side ≤ 1024
-area k = mul-le-mul (passed k .small) (passed k .small)
+area : (k : tie.After-known-told) → k .before .found .given .0 .0 .width * k .before .found .given .0 .0 .height ≤ 1024
+area k = mul-le-mul (passed k .wide) (passed k .tall)
 
 check-header-requires : tie.Need-check-header-requires
 check-header-requires c κs = search needs
@@ -51,7 +51,7 @@ slice-aggregate-print-rows c = sym (length-take-le _ _ (omega (arith, area (c .b
 print-rows-requires : tie.Need-print-rows-requires
 print-rows-requires c κs =
     let p = passed (c .before .before .before) in
-    ((p .sided, p .deep, p .small, p .within), (length-take-le _ _ (omega (arith, area (c .before .before .before), c .before .before .sample-buffer .ensures)), search needs))
+    ((p .sided, p .deep, p .tall, p .wide, p .within), (length-take-le _ _ (omega (arith, area (c .before .before .before), c .before .before .sample-buffer .ensures)), search needs))
 
 returns-2 : tie.Need-returns-2
 returns-2 c = printed (passed (c .before .before .before .before .before) .text) (c .before .print-rows .ensures)

@@ -34,7 +34,7 @@ returns c =
     let p = c .before .before .before .before .before .before .before .before .before .before .before .before .pre in
     let u = c .before .before .before .before .before .before .before .before .keep in
     let e = c .before .before .before .before .before .enum-told2 .given in
-    printed (end-7 (a .side) (a .levels) (a .quota) (p .0 .0) (p .0 .1) (a .plane .now) (a .coverings .now) (p .1 .0) (u .last .1 .1 .0) (u .result) (u .ensures) (e .0 .0) (e .1) (c .before .before .before .counted-code .result) (c .before .before .before .counted-code .ensures)) (c .before .before .put-refusal .ensures)
+    printed (end-7 (a .height) (a .width) (a .levels) (a .quota) (p .0 .0) (p .0 .1) (a .plane .now) (a .coverings .now) (p .1 .0) (u .last .1 .1 .1 .0) (u .result) (u .ensures) (e .0 .0) (e .1) (c .before .before .before .counted-code .result) (c .before .before .before .counted-code .ensures)) (c .before .before .put-refusal .ensures)
 
 write-requires : tie.Need-write-requires
 write-requires c κs = search needs
@@ -49,7 +49,7 @@ counted-code-requires-2 : tie.Need-counted-code-requires-2
 counted-code-requires-2 c κs = search needs
 
 put-refusal-requires-2 : tie.Need-put-refusal-requires-2
-put-refusal-requires-2 c κs = (omega (arith, c .counted-code2 .ensures, counted-le (c .before .before .before .before .before .before .write .result)), omega (arith, c .before .before .before .before .before .before .write .kept .1 .1 .1 .1 .0, c .before .before .before .before .before .before .before .before .before .before .before .before .before .before .before .before .pre .1 .1))
+put-refusal-requires-2 c κs = (omega (arith, c .counted-code2 .ensures, counted-le (c .before .before .before .before .before .before .write .result)), omega (arith, c .before .before .before .before .before .before .write .kept .1 .1 .1 .1 .1 .0, c .before .before .before .before .before .before .before .before .before .before .before .before .before .before .before .before .pre .1 .1))
 
 same-length-3 : tie.Need-same-length-3
 same-length-3 c = search needs
@@ -65,7 +65,7 @@ returns-2 c =
     let v = c .before .before .before .before .before .before .before .before .before .before .before .before .enum-told .given in
     let w = c .before .before .before .before .before .before .before .before .before .write in
     let e = c .before .before .before .before .before .enum-told3 .given in
-    absurd (end-10 (a .side) (a .levels) (a .quota) (p .0 .0) (p .0 .1) (a .plane .now) (a .coverings .now) (p .1 .0) (u .last .1 .1 .0) (u .result) (u .ensures) (v .0 .0) (v .1) (p .0 .2) (a .out .now) (w .last .1 .1 .1 .1 .0) (p .1 .1) (w .result) (w .ensures) (e .0 .0) (e .1))
+    absurd (end-10 (a .height) (a .width) (a .levels) (a .quota) (p .0 .0) (p .0 .1) (a .plane .now) (a .coverings .now) (p .1 .0) (u .last .1 .1 .1 .0) (u .result) (u .ensures) (v .0 .0) (v .1) (p .0 .2) (p .0 .3) (a .out .now) (w .last .1 .1 .1 .1 .1 .0) (p .1 .1) (w .result) (w .ensures) (e .0 .0) (e .1))
 
 same-length-5 : tie.Need-same-length-5
 same-length-5 c = search needs
@@ -81,7 +81,7 @@ returns-3 c =
     let v = c .before .before .before .before .before .before .before .before .enum-told .given in
     let w = c .before .before .before .before .before .write in
     let e = c .before .written .given in
-    end-sheet (a .side) (a .levels) (a .quota) (p .0 .0) (p .0 .1) (a .plane .now) (a .coverings .now) (p .1 .0) (u .last .1 .1 .0) (u .result) (u .ensures) (v .0 .0) (v .1) (p .0 .2) (a .out .now) (w .last .1 .1 .1 .1 .0) (p .1 .1) (w .result) (w .ensures) (e .0 .0) (e .1)
+    end-sheet (a .height) (a .width) (a .levels) (a .quota) (p .0 .0) (p .0 .1) (a .plane .now) (a .coverings .now) (p .1 .0) (u .last .1 .1 .1 .0) (u .result) (u .ensures) (v .0 .0) (v .1) (p .0 .2) (p .0 .3) (a .out .now) (w .last .1 .1 .1 .1 .1 .0) (p .1 .1) (w .result) (w .ensures) (e .0 .0) (e .1)
 
 pub print-kept-spec : {M : Type 1} → statement M
 print-kept-spec =

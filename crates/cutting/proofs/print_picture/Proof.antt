@@ -1,4 +1,4 @@
--- `cutting::print_picture` meets its contract: the parts of the work space that a side of 32 or less takes. Assumes nothing.
+-- `cutting::print_picture` meets its contract: the parts of the work space that a picture of at most 32 by 32 takes. Assumes nothing.
 use mathlib.Core.Path.{sym, _∙_}
 use Prim.Native.Nat.{_*_, _≤_}
 use native.Mathlib.Omega.{arith}
@@ -10,20 +10,22 @@ use borrow.Author.Needs.{needs}
 use Rattle.cutting.proofs.print_picture.Statement.{statement}
 use Rattle.cutting.proofs.print_picture.Tie as tie
 
-area : (k : tie.After-slice-known) → k .before .before .args .side * k .before .before .args .side ≤ 1024
-area k = mul-le-mul (k .before .before .pre .0 .2) (k .before .before .pre .0 .2)
+area : (k : tie.After-slice-known) → k .before .before .args .width * k .before .before .args .height ≤ 1024
+area k = mul-le-mul (k .before .before .pre .0 .3) (k .before .before .pre .0 .2)
 
 levels : (k : tie.After-slice-known) → k .before .before .args .levels ≤ 8
-levels k = let q = passed (k .before .before .args .side) (k .before .before .args .levels) (k .before .before .pre .0 .0) (k .before .before .pre .0 .1) in omega (arith, q .levels, q .log-high)
+levels k = let s = k .before .before in passed (s .args .height) (s .args .width) (s .args .levels) (s .pre .0 .0) (s .pre .0 .1) .few
 
 blocks : (k : tie.After-count-blocks) → k .count-blocks .result ≤ 85
-blocks k = omega (arith, k .count-blocks .ensures .0, few-blocks (k .before .before .before .args .side) (k .before .before .before .args .levels) (k .before .before .before .pre .0 .2) (levels (k .before)))
+blocks k =
+    let s = k .before .before .before in
+    omega (arith, k .count-blocks .ensures .0, few-blocks (s .args .height) (s .args .width) (s .args .levels) (s .pre .0 .2) (s .pre .0 .3) (levels (k .before)))
 
 mul-area : tie.Need-mul-area
 mul-area c = search needs
 
 count-blocks-requires : tie.Need-count-blocks-requires
-count-blocks-requires c κs = (omega (arith, c .before .before .pre .0 .2), levels c)
+count-blocks-requires c κs = (omega (arith, c .before .before .pre .0 .2), omega (arith, c .before .before .pre .0 .3), levels c)
 
 plane-buffer-requires : tie.Need-plane-buffer-requires
 plane-buffer-requires c κs = search needs

@@ -35,7 +35,7 @@ returns c =
     let a = c .before .before .before .before .before .before .before .before .before .before .before .before .before .before .args in
     let r = c .before .before .before .before .before .before .before .before .before .read-samples in
     let e = c .before .before .before .before .before .enum-told2 .given in
-    printed (no-rows (a .side) (a .levels) (a .quota) (parse (samplesForm (a .side)) (drop (a .at) (a .text .now))) (r .last .1 .1 .1 .0) (r .result) (e .0 .0) (e .1) (r .ensures) (c .before .before .before .code .result) (c .before .before .before .code .ensures)) (c .before .before .put-refusal .ensures)
+    printed (no-rows (a .height) (a .width) (a .levels) (a .quota) (parse (samplesForm (a .height) (a .width)) (drop (a .at) (a .text .now))) (r .last .1 .1 .1 .1 .0) (r .result) (e .0 .0) (e .1) (r .ensures) (c .before .before .before .code .result) (c .before .before .before .code .ensures)) (c .before .before .put-refusal .ensures)
 
 print-picture-requires : tie.Need-print-picture-requires
 print-picture-requires c κs = search needs
@@ -50,7 +50,7 @@ returns-2 : tie.Need-returns-2
 returns-2 c =
     let a = c .before .before .before .before .before .before .before .before .before .before .before .before .before .before .args in
     let r = c .before .before .before .before .before .before .before .before .before .read-samples in
-    printed (some-rows (a .side) (a .levels) (a .quota) (parse (samplesForm (a .side)) (drop (a .at) (a .text .now))) (r .last .1 .1 .1 .0) (r .result) (c .before .before .before .before .before .enum-told .given .1) (r .ensures)) (c .before .before .print-picture .ensures)
+    printed (some-rows (a .height) (a .width) (a .levels) (a .quota) (parse (samplesForm (a .height) (a .width)) (drop (a .at) (a .text .now))) (r .last .1 .1 .1 .1 .0) (r .result) (c .before .before .before .before .before .enum-told .given .1) (r .ensures)) (c .before .before .print-picture .ensures)
 
 pub print-rows-spec : {M : Type 1} → statement M
 print-rows-spec =

@@ -40,14 +40,14 @@ returns c =
     let p = c .before .before .before .before .before .before .before .before .before .before .before .before .before .before .before .before .before .before .pre in
     let d = c .before .before .before .before .before .before .before .before .before .before .before .decompose in
     let e = c .before .before .before .before .before .enum-told2 .given in
-    printed (end-4 (a .side) (a .levels) (a .quota) (a .samples .now) (p .0 .0) (p .0 .1) (p .1 .0 .0) (a .plane .now) (a .coverings .now) (a .scratch .now) (p .1 .0 .1) (p .1 .1 .0) (p .1 .0 .2) (d .last .1 .1 .1 .0) (d .last .1 .1 .1 .1 .0) (d .last .1 .1 .1 .1 .1 .0) (d .result) (d .ensures) (e .0 .0) (e .1) (c .before .before .before .code .result) (c .before .before .before .code .ensures)) (c .before .before .put-refusal .ensures)
+    printed (end-4 (a .height) (a .width) (a .levels) (a .quota) (a .samples .now) (p .0 .0) (p .0 .1) (p .1 .0 .0) (a .plane .now) (a .coverings .now) (a .scratch .now) (p .1 .0 .1) (p .1 .1 .0) (p .1 .0 .2) (d .last .1 .1 .1 .1 .0) (d .last .1 .1 .1 .1 .1 .0) (d .last .1 .1 .1 .1 .1 .1 .0) (d .result) (d .ensures) (e .0 .0) (e .1) (c .before .before .before .code .result) (c .before .before .before .code .ensures)) (c .before .before .put-refusal .ensures)
 
 print-kept-requires : tie.Need-print-kept-requires
 print-kept-requires c κs =
     let a = c .before .before .before .before .before .before .before .before .before .before .before .before .before .before .before .before .args in
     let p = c .before .before .before .before .before .before .before .before .before .before .before .before .before .before .before .before .pre in
     let d = c .before .before .before .before .before .before .before .before .before .decompose in
-    (p .0, (decomposed (a .side) (a .levels) (a .quota) (a .samples .now) (p .0 .0) (p .0 .1) (p .1 .0 .0) (a .plane .now) (a .coverings .now) (a .scratch .now) (p .1 .0 .1) (p .1 .1 .0) (p .1 .0 .2) (d .last .1 .1 .1 .0) (d .last .1 .1 .1 .1 .0) (d .last .1 .1 .1 .1 .1 .0) (d .result) (d .ensures) (c .before .before .before .enum-told .given .1), p .1 .1 .1))
+    (p .0, (decomposed (a .height) (a .width) (a .levels) (a .quota) (a .samples .now) (p .0 .0) (p .0 .1) (p .1 .0 .0) (a .plane .now) (a .coverings .now) (a .scratch .now) (p .1 .0 .1) (p .1 .1 .0) (p .1 .0 .2) (d .last .1 .1 .1 .1 .0) (d .last .1 .1 .1 .1 .1 .0) (d .last .1 .1 .1 .1 .1 .1 .0) (d .result) (d .ensures) (c .before .before .before .enum-told .given .1), p .1 .1 .1))
 
 same-length-5 : tie.Need-same-length-5
 same-length-5 c = search needs
@@ -66,7 +66,7 @@ returns-2 c =
     let a = c .before .before .before .before .before .before .before .before .before .before .before .before .before .before .before .before .before .before .before .before .args in
     let p = c .before .before .before .before .before .before .before .before .before .before .before .before .before .before .before .before .before .before .before .before .pre in
     let d = c .before .before .before .before .before .before .before .before .before .before .before .before .before .decompose in
-    printed (left (a .side) (a .levels) (a .quota) (a .samples .now) (p .0 .0) (p .0 .1) (p .1 .0 .0) (a .plane .now) (a .coverings .now) (a .scratch .now) (p .1 .0 .1) (p .1 .1 .0) (p .1 .0 .2) (d .last .1 .1 .1 .0) (d .last .1 .1 .1 .1 .0) (d .last .1 .1 .1 .1 .1 .0) (d .result) (d .ensures) (c .before .before .before .before .before .before .before .enum-told .given .1)) (c .before .before .before .print-kept .ensures)
+    printed (left (a .height) (a .width) (a .levels) (a .quota) (a .samples .now) (p .0 .0) (p .0 .1) (p .1 .0 .0) (a .plane .now) (a .coverings .now) (a .scratch .now) (p .1 .0 .1) (p .1 .1 .0) (p .1 .0 .2) (d .last .1 .1 .1 .1 .0) (d .last .1 .1 .1 .1 .1 .0) (d .last .1 .1 .1 .1 .1 .1 .0) (d .result) (d .ensures) (c .before .before .before .before .before .before .before .enum-told .given .1)) (c .before .before .before .print-kept .ensures)
 
 pub print-sheet-spec : {M : Type 1} → statement M
 print-sheet-spec =

@@ -7,10 +7,10 @@ use Rattle.plain_cutter.proofs.read_rows.Statement.{statement}
 use Rattle.plain_cutter.proofs.read_rows.Tie as tie
 
 abbrev Inv-loop : tie.InvT-loop
-Inv-loop text at side samples₀ rows₀ end n₀ samples rows n = length samples ≡ length samples₀
+Inv-loop text at extent samples₀ rows₀ end n₀ samples rows n = length samples ≡ length samples₀
 
 abbrev μ-loop : tie.MeasureT-loop
-μ-loop text at side samples₀ rows₀ end n₀ samples rows n = end - n
+μ-loop text at extent samples₀ rows₀ end n₀ samples rows n = end - n
 
 area-requires : tie.Need-area-requires Inv-loop μ-loop
 area-requires c κs = tt

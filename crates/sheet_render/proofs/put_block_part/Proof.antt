@@ -18,17 +18,17 @@ names : (k : tie.After-put-bytes) → let a = k .before .before .before .before 
 names k =
     let s = k .before .before .before .before .before in
     let a = s .args in
-    record { room = omega (arith, s .pre .1 .1, length-append (bytes "level row col cover\n") (blocksText (a .levels) (a .side) (a .side) (a .coverings .now))); next = k .put-bytes .ensures .0; bytes = k .put-bytes .ensures .1 }
+    record { room = omega (arith, s .pre .1 .1, length-append (bytes "level row col cover\n") (blocksText (a .levels) (a .height) (a .width) (a .coverings .now))); next = k .put-bytes .ensures .0; bytes = k .put-bytes .ensures .1 }
 
 lines : (k : tie.After-put-blocks) → let j = k .before .before .before .before in let a = j .before .before .before .before .before .args in
-    Put (j .put-bytes .result) (k .put-blocks .result) (blocksText (a .levels) (a .side) (a .side) (a .coverings .now)) (j .put-bytes .last .0) (k .put-blocks .last .0)
+    Put (j .put-bytes .result) (k .put-blocks .result) (blocksText (a .levels) (a .height) (a .width) (a .coverings .now)) (j .put-bytes .last .0) (k .put-blocks .last .0)
 lines k =
     let j = k .before .before .before .before in
     let s = j .before .before .before .before .before in
     let a = s .args in
     let n = names j in
     record {
-      room = omega (arith, s .pre .1 .1, length-append (bytes "level row col cover\n") (blocksText (a .levels) (a .side) (a .side) (a .coverings .now)), n .next, put-length n);
+      room = omega (arith, s .pre .1 .1, length-append (bytes "level row col cover\n") (blocksText (a .levels) (a .height) (a .width) (a .coverings .now)), n .next, put-length n);
       next = k .put-blocks .ensures .0;
       bytes = k .put-blocks .ensures .1;
     }

@@ -21,10 +21,10 @@ use Rattle.sheet_render.proofs.put_blocks.Statement.{statement}
 use Rattle.sheet_render.proofs.put_blocks.Tie as tie
 
 abbrev Inv-loop : tie.InvT-loop
-Inv-loop out₀ at coverings side levels k₀ p₀ i₀ out k p i = Inside side k × (i ≤ length coverings) × (length (blocksLeft k) + i ≡ length coverings) × (length out ≡ length out₀) × (p + length (blocksFrom k coverings i) ≡ at + length (blocksText levels side side coverings)) × (stamp p (blocksFrom k coverings i) out ≡ stamp at (blocksText levels side side coverings) out₀)
+Inv-loop out₀ at coverings height width levels k₀ p₀ i₀ out k p i = Inside height width k × (i ≤ length coverings) × (length (blocksLeft k) + i ≡ length coverings) × (length out ≡ length out₀) × (p + length (blocksFrom k coverings i) ≡ at + length (blocksText levels height width coverings)) × (stamp p (blocksFrom k coverings i) out ≡ stamp at (blocksText levels height width coverings) out₀)
 
 abbrev μ-loop : tie.MeasureT-loop
-μ-loop out₀ at coverings side levels k₀ p₀ i₀ out k p i = length coverings - i
+μ-loop out₀ at coverings height width levels k₀ p₀ i₀ out k p i = length coverings - i
 
 first-block-requires : tie.Need-first-block-requires Inv-loop μ-loop
 first-block-requires c κs = (c .before .before .pre .0 .0, c .before .before .pre .0 .1)
@@ -34,7 +34,7 @@ loop-holds c =
     let s = c .before .before .before in
     let cs = s .args .coverings .now in
     let e = c .first-block .ensures .1 in
-    let n = blocks-count 0 (s .args .levels) (s .args .side) (s .args .side) in
+    let n = blocks-count 0 (s .args .levels) (s .args .height) (s .args .width) in
     let l = s .pre .1 .0 in
     (c .first-block .ensures .0, omega arith, omega (arith, ap length e), refl, ap (λ bs. s .args .at + length (rowsText (blockRows bs cs))) e, ap (λ bs. stamp (s .args .at) (rowsText (blockRows bs cs)) (s .args .out .now)) e)
 
@@ -59,7 +59,7 @@ room c =
 put-four-requires : tie.Need-put-four-requires Inv-loop μ-loop
 put-four-requires c κs =
     let i = c .before .before .before .loop .inv .0 in
-    (omega (arith, i .levels), omega (arith, i .row, i .tall, i .side), omega (arith, i .col, i .wide, i .side), omega (arith, c .before .shared-slice-known2 .given (c .before .before .before .loop .i)), room c)
+    (omega (arith, i .levels), omega (arith, i .row, i .tall, i .down), omega (arith, i .col, i .wide, i .across), omega (arith, c .before .shared-slice-known2 .given (c .before .before .before .loop .i)), room c)
 
 step-requires : tie.Need-step-requires Inv-loop μ-loop
 step-requires c κs =

@@ -30,14 +30,14 @@ use Rattle.sheet_render.proofs.put_entries.Statement.{statement}
 use Rattle.sheet_render.proofs.put_entries.Tie as tie
 
 abbrev Inv-loop : tie.InvT-loop
-Inv-loop out₀ at plane side levels k₀ p₀ out k p = Inside side k × (allFit levels (imageOf side plane) k ≡ true) × (length out ≡ length out₀) × (p + length (entriesFrom (imageOf side plane) k) ≡ at + length (entriesText levels side side plane)) × (stamp p (entriesFrom (imageOf side plane) k) out ≡ stamp at (entriesText levels side side plane) out₀)
+Inv-loop out₀ at plane height width levels k₀ p₀ out k p = Inside height width k × (allFit levels (imageOf height plane) k ≡ true) × (length out ≡ length out₀) × (p + length (entriesFrom (imageOf height plane) k) ≡ at + length (entriesText levels height width plane)) × (stamp p (entriesFrom (imageOf height plane) k) out ≡ stamp at (entriesText levels height width plane) out₀)
 
 abbrev μ-loop : tie.MeasureT-loop
-μ-loop out₀ at plane side levels k₀ p₀ out k p = length (entriesLeft k)
+μ-loop out₀ at plane height width levels k₀ p₀ out k p = length (entriesLeft k)
 
 -- what was read is the entry of the plane at the present place
 value : (c : tie.After-v Inv-loop μ-loop) → let s = c .before .before .before .before .before .before .before in let l = c .before .before .before .before .loop in
-    toZ w64 (ofZ w64 (getD (s .args .plane .now) (c .before .index-of .result) (pos 0))) ≡ at (imageOf (s .args .side) (s .args .plane .now)) (entryOf (l .k))
+    toZ w64 (ofZ w64 (getD (s .args .plane .now) (c .before .index-of .result) (pos 0))) ≡ at (imageOf (s .args .height) (s .args .plane .now)) (entryOf (l .k))
 value c = let s = c .before .before .before .before .before .before .before in kept (c .v .given) ∙ ap (λ (j : ℕ). getD (s .args .plane .now) j (pos 0)) (c .before .index-of .ensures .0)
 
 first-of : (c : tie.After-v Inv-loop μ-loop) → let k = c .before .before .before .before .loop .k in (t : List Place) × (entriesLeft k ≡ entryOf k ∷ t)
@@ -47,10 +47,10 @@ small : (c : tie.After-v Inv-loop μ-loop) → let s = c .before .before .before
 small c =
     let s = c .before .before .before .before .before .before .before in
     let l = c .before .before .before .before .loop in
-    let q = passed (s .args .side) (s .args .levels) (s .pre .0 .0) (s .pre .0 .1) in
-    let P = imageOf (s .args .side) (s .args .plane .now) in
+    let q = passed (s .args .height) (s .args .width) (s .args .levels) (s .pre .0 .0) (s .pre .0 .1) in
+    let P = imageOf (s .args .height) (s .args .plane .now) in
     let t = first-of c in
-    let r = range-small (s .args .levels) (entryOf (l .k)) (at P (entryOf (l .k))) (omega (arith, q .levels, q .log-high)) (omega (arith, l .inv .0 .levels, c .before .before .if1 .taken)) (fit-first (s .args .levels) P (l .k) (t .0) (t .1) (l .inv .1)) in
+    let r = range-small (s .args .levels) (entryOf (l .k)) (at P (entryOf (l .k))) (omega (arith, q .few)) (omega (arith, l .inv .0 .levels, c .before .before .if1 .taken)) (fit-first (s .args .levels) P (l .k) (t .0) (t .1) (l .inv .1)) in
     omega (arith, ap natAbs (value c))
 
 first-entry-requires : tie.Need-first-entry-requires Inv-loop μ-loop
@@ -60,7 +60,7 @@ loop-holds : tie.Need-loop-holds Inv-loop μ-loop
 unfolding inRange
 loop-holds c =
     let s = c .before .before in
-    let P = imageOf (s .args .side) (s .args .plane .now) in
+    let P = imageOf (s .args .height) (s .args .plane .now) in
     let e = c .first-entry .ensures .1 in (
       c .first-entry .ensures .0,
       ap (every (λ p. fitsRange (s .args .levels) p (at P p))) e ∙ s .pre .1 .0 .1,
@@ -84,7 +84,7 @@ room : (c : tie.After-v Inv-loop μ-loop) → let s = c .before .before .before 
 room c =
     let s = c .before .before .before .before .before .before .before in
     let l = c .before .before .before .before .loop in
-    let P = imageOf (s .args .side) (s .args .plane .now) in
+    let P = imageOf (s .args .height) (s .args .plane .now) in
     let t = first-of c in
     let v = toZ w64 (ofZ w64 (getD (s .args .plane .now) (c .before .index-of .result) (pos 0))) in
     let x = ap length (entries-next P (l .k) (t .0) v (t .1) (value c)) ∙ length-append (lineOf (l .k) v) (rowsText (entryRows P (t .0))) in
@@ -106,7 +106,7 @@ loop-again c =
     let l = c .before .before .before .before .before .before .before .before .before .loop in
     let k = l .k in
     let g = c .before .before .before in
-    let P = imageOf (s .args .side) (s .args .plane .now) in
+    let P = imageOf (s .args .height) (s .args .plane .now) in
     let e = c .step .ensures .entries in
     let v = toZ w64 (ofZ w64 (getD (s .args .plane .now) (a .before .index-of .result) (pos 0))) in
     let r = entriesFrom P (c .step .result) in
@@ -127,7 +127,7 @@ returns : tie.Need-returns Inv-loop μ-loop
 returns c =
     let s = c .before .before .before .before .before in
     let l = c .before .before .loop in
-    let P = imageOf (s .args .side) (s .args .plane .now) in
+    let P = imageOf (s .args .height) (s .args .plane .now) in
     let z = entries-end P (l .k) (ended entryAt (l .k) (omega (arith, c .if1 .left))) in
     (omega (arith, ap length z, l .inv .3), sym (ap (λ x. stamp (l .p) x (l .out)) z ∙ stamp-none (l .p) (l .out)) ∙ l .inv .4)
 

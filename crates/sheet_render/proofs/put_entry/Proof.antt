@@ -29,7 +29,7 @@ put-five-requires c κs =
     let i = s .pre .0 .0 in
     let e = line-some k (s .args .v) (bits-not-zero (s .args .v) (c .before .if1 .left)) in
     let q = toZ-ofZ (s .fits .v) in (
-      (omega (arith, s .pre .0 .1), omega (arith, i .band), omega (arith, i .row, i .tall, i .side), omega (arith, i .col, i .wide, i .side), omega (arith, ap natAbs q, s .pre .0 .2)),
+      (omega (arith, s .pre .0 .1), omega (arith, i .band), omega (arith, i .row, i .tall, i .down), omega (arith, i .col, i .wide, i .across), omega (arith, ap natAbs q, s .pre .0 .2)),
       omega (arith, s .pre .1, ap length e, ap (λ v. length (fiveText (k .level) (k .band) (k .row) (k .col) v)) q),
     )
 

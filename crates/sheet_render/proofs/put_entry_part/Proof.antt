@@ -18,17 +18,17 @@ names : (k : tie.After-put-bytes) → let a = k .before .before .before .before 
 names k =
     let s = k .before .before .before .before in
     let a = s .args in
-    record { room = omega (arith, s .pre .1 .1, length-append (bytes "level band row col value\n") (entriesText (a .levels) (a .side) (a .side) (a .plane .now))); next = k .put-bytes .ensures .0; bytes = k .put-bytes .ensures .1 }
+    record { room = omega (arith, s .pre .1 .1, length-append (bytes "level band row col value\n") (entriesText (a .levels) (a .height) (a .width) (a .plane .now))); next = k .put-bytes .ensures .0; bytes = k .put-bytes .ensures .1 }
 
 lines : (k : tie.After-put-entries) → let j = k .before .before .before .before in let a = j .before .before .before .before .args in
-    Put (j .put-bytes .result) (k .put-entries .result) (entriesText (a .levels) (a .side) (a .side) (a .plane .now)) (j .put-bytes .last .0) (k .put-entries .last .0)
+    Put (j .put-bytes .result) (k .put-entries .result) (entriesText (a .levels) (a .height) (a .width) (a .plane .now)) (j .put-bytes .last .0) (k .put-entries .last .0)
 lines k =
     let j = k .before .before .before .before in
     let s = j .before .before .before .before in
     let a = s .args in
     let n = names j in
     record {
-      room = omega (arith, s .pre .1 .1, length-append (bytes "level band row col value\n") (entriesText (a .levels) (a .side) (a .side) (a .plane .now)), n .next, put-length n);
+      room = omega (arith, s .pre .1 .1, length-append (bytes "level band row col value\n") (entriesText (a .levels) (a .height) (a .width) (a .plane .now)), n .next, put-length n);
       next = k .put-entries .ensures .0;
       bytes = k .put-entries .ensures .1;
     }

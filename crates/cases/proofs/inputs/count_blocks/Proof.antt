@@ -4,10 +4,10 @@ use Rattle.cases.proofs.inputs.count_blocks.Statement.{statement}
 use Rattle.cases.proofs.inputs.count_blocks.Tie as tie
 
 abbrev Inv-loop : tie.InvT-loop
-Inv-loop side levels sum₀ s₀ left₀ sum s left = Unit
+Inv-loop height width levels sum₀ h₀ w₀ left₀ sum h w left = Unit
 
 abbrev μ-loop : tie.MeasureT-loop
-μ-loop side levels sum₀ s₀ left₀ sum s left = left
+μ-loop height width levels sum₀ h₀ w₀ left₀ sum h w left = left
 
 loop-holds : tie.Need-loop-holds Inv-loop μ-loop
 loop-holds c = search needs

@@ -5,10 +5,10 @@ use Rattle.cutter_cases.proofs.damage.damage_group.Statement.{statement
 use Rattle.cutter_cases.proofs.damage.damage_group.Tie as tie
 
 abbrev Inv-loop : tie.InvT-loop
-Inv-loop side ways end s₀ c₀ s c = Unit
+Inv-loop k ways step end s₀ c₀ s c = Unit
 
 abbrev μ-loop : tie.MeasureT-loop
-μ-loop side ways end s₀ c₀ s c = end - c
+μ-loop k ways step end s₀ c₀ s c = end - c
 
 length-of-requires : tie.Need-length-of-requires Inv-loop μ-loop
 length-of-requires c κs = search needs
@@ -16,14 +16,17 @@ length-of-requires c κs = search needs
 times-requires : tie.Need-times-requires Inv-loop μ-loop
 times-requires c κs = search needs
 
-nothing-requires : tie.Need-nothing-requires Inv-loop μ-loop
-nothing-requires c κs = search needs
+over-requires : tie.Need-over-requires Inv-loop μ-loop
+over-requires c κs = search needs
 
 loop-holds : tie.Need-loop-holds Inv-loop μ-loop
 loop-holds c = search needs
 
-over-requires : tie.Need-over-requires Inv-loop μ-loop
-over-requires c κs = search needs
+times-requires-2 : tie.Need-times-requires-2 Inv-loop μ-loop
+times-requires-2 c κs = search needs
+
+over-requires-2 : tie.Need-over-requires-2 Inv-loop μ-loop
+over-requires-2 c κs = search needs
 
 rest-requires : tie.Need-rest-requires Inv-loop μ-loop
 rest-requires c κs = search needs
@@ -54,9 +57,10 @@ damage-group-spec =
     μ-loop
     length-of-requires
     times-requires
-    nothing-requires
-    loop-holds
     over-requires
+    loop-holds
+    times-requires-2
+    over-requires-2
     rest-requires
     damaged-requires
     counted-requires

@@ -9,9 +9,6 @@ use Rattle.cutter_cases.proofs.damage.damaged.Tie as tie
 slice-aggregate-put-input : tie.Need-slice-aggregate-put-input
 slice-aggregate-put-input c = search needs
 
-ask-of-requires : tie.Need-ask-of-requires
-ask-of-requires c κs = search needs
-
 put-input-requires : tie.Need-put-input-requires
 put-input-requires c κs = search needs
 
@@ -50,7 +47,6 @@ damaged-spec =
     tie.close
     (tie.spec
     slice-aggregate-put-input
-    ask-of-requires
     put-input-requires
     returns
     slice-aggregate-put-damaged

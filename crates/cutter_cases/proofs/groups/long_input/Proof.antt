@@ -12,9 +12,6 @@ add-end c = search needs
 slice-aggregate-put-header : tie.Need-slice-aggregate-put-header
 slice-aggregate-put-header c = search needs
 
-ask-of-requires : tie.Need-ask-of-requires
-ask-of-requires c κs = search needs
-
 put-header-requires : tie.Need-put-header-requires
 put-header-requires c κs = search needs
 
@@ -36,7 +33,6 @@ long-input-spec =
     (tie.spec
     add-end
     slice-aggregate-put-header
-    ask-of-requires
     put-header-requires
     array-share-prefix-text
     slice-aggregate-answer

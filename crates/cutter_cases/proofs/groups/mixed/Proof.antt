@@ -9,9 +9,6 @@ use Rattle.cutter_cases.proofs.groups.mixed.Tie as tie
 slice-aggregate-put-input : tie.Need-slice-aggregate-put-input
 slice-aggregate-put-input c = search needs
 
-ask-of-requires : tie.Need-ask-of-requires
-ask-of-requires c κs = search needs
-
 put-input-requires : tie.Need-put-input-requires
 put-input-requires c κs = search needs
 
@@ -41,7 +38,6 @@ mixed-spec =
     tie.close
     (tie.spec
     slice-aggregate-put-input
-    ask-of-requires
     put-input-requires
     slice-aggregate-end-of
     end-of-requires

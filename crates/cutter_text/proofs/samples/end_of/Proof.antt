@@ -10,10 +10,10 @@ sub-if1 : tie.Need-sub-if1
 sub-if1 c = search needs
 
 returns : tie.Need-returns
-returns c = after-last (c .before .args .n - c .before .args .x - 1) (omega arith)
+returns c = after-last (c .before .args .width - c .before .args .x - 1) (omega arith)
 
 returns-2 : tie.Need-returns-2
-returns-2 c = after-more (c .before .args .n - c .before .args .x - 1) (omega arith)
+returns-2 c = after-more (c .before .args .width - c .before .args .x - 1) (omega arith)
 
 pub end-of-spec : {M : Type 1} → statement M
 end-of-spec = tie.close (tie.spec sub-if1 returns returns-2)

@@ -14,24 +14,24 @@ use Rattle.cutter_text.proofs.samples.read_row.Statement.{statement}
 use Rattle.cutter_text.proofs.samples.read_row.Tie as tie
 
 abbrev Inv-loop : tie.InvT-loop
-Inv-loop s at n y samples₀ p₀ x₀ samples p x = (x ≤ n) × (length samples ≡ n * n) × (rowOf n y x samples (row (plains (n - x)) (drop p s)) ≡ rowOf n y 0 samples₀ (row (plains n) (drop at s)))
+Inv-loop s at h w y samples₀ p₀ x₀ samples p x = (x ≤ w) × (length samples ≡ w * h) × (rowOf h y x samples (row (plains (w - x)) (drop p s)) ≡ rowOf h y 0 samples₀ (row (plains w) (drop at s)))
 
 abbrev μ-loop : tie.MeasureT-loop
-μ-loop s at n y samples₀ p₀ x₀ samples p x = n - x
+μ-loop s at h w y samples₀ p₀ x₀ samples p x = w - x
 
 room : (k : tie.After-known-told Inv-loop μ-loop) → let a = k .before .before .before .before .before .before .before .before .before .args in let x = k .before .before .before .before .before .before .loop .x in
-    (x * a .n + a .y < a .n * a .n) × (a .n * a .n ≤ 1024)
+    (x * a .height + a .y < a .width * a .height) × (a .width * a .height ≤ 1024)
 room k =
     let s = k .before .before .before .before .before .before .before .before .before in
     let a = s .args in
-    (index-bound (k .before .before .before .before .before .before .loop .x) (a .y) (a .n) (a .n) (k .before .before .before .before .before .loop-test .taken) (s .pre .0), mul-le-mul (s .pre .1) (s .pre .1))
+    (index-bound (k .before .before .before .before .before .before .loop .x) (a .y) (a .width) (a .height) (k .before .before .before .before .before .loop-test .taken) (s .pre .0), mul-le-mul (s .pre .2) (s .pre .1))
 
 loop-holds : tie.Need-loop-holds Inv-loop μ-loop
 loop-holds c =
     let s = c .before .before in
     let a = s .args in
-    let z : a .n - 0 ≡ a .n = omega arith in
-    (omega arith, s .pre .2, ap (λ (j : ℕ). rowOf (a .n) (a .y) 0 (a .samples .now) (row (plains j) (drop (a .at) (a .s .now)))) z)
+    let z : a .width - 0 ≡ a .width = omega arith in
+    (omega arith, s .pre .3, ap (λ (j : ℕ). rowOf (a .height) (a .y) 0 (a .samples .now) (row (plains j) (drop (a .at) (a .s .now)))) z)
 
 end-of-requires : tie.Need-end-of-requires Inv-loop μ-loop
 end-of-requires c κs = search needs
@@ -46,13 +46,13 @@ enum-told : tie.Need-enum-told Inv-loop μ-loop
 enum-told c = search needs
 
 same-length : tie.Need-same-length Inv-loop μ-loop
-same-length c = c .before .before .before .before .before .loop .inv .1 ∙ sym (c .before .before .before .before .before .before .before .before .pre .2)
+same-length c = c .before .before .before .before .before .loop .inv .1 ∙ sym (c .before .before .before .before .before .before .before .before .pre .3)
 
 returns : tie.Need-returns Inv-loop μ-loop
 returns c =
     let a = c .before .before .before .before .before .before .before .before .args in
     let l = c .before .before .before .before .before .loop in
-    sym (row-stop (a .n) (a .y) (l .x) (l .samples) (a .s .now) (l .p) (c .before .before .before .before .loop-test .taken) (c .before .before .before .end-of .result) (c .before .before .before .end-of .ensures) (sym (c .before .before .read-size .ensures) ∙ c .enum-told .given .1))
+    sym (row-stop (a .height) (a .width) (a .y) (l .x) (l .samples) (a .s .now) (l .p) (c .before .before .before .before .loop-test .taken) (c .before .before .before .end-of .result) (c .before .before .before .end-of .ensures) (sym (c .before .before .read-size .ensures) ∙ c .enum-told .given .1))
     ∙ l .inv .2
 
 mul-k : tie.Need-mul-k Inv-loop μ-loop
@@ -83,19 +83,19 @@ loop-again c =
     let l = k .before .before .before .before .before .before .loop in
     let t = k .before .before .before .before .before .loop-test .taken in (
       omega (arith, t),
-      length-set (l .samples) (l .x * a .n + a .y) (c .hold .result) ∙ l .inv .1,
-      row-again (a .n) (a .y) (l .x) (l .samples) (a .s .now) (l .p) t (k .before .before .before .before .end-of .result) (k .before .v .given .0 .0) (k .before .v .given .0 .1 .0) (c .hold .result) (k .before .before .before .before .end-of .ensures) (sym (k .before .before .before .read-size .ensures) ∙ k .before .v .given .1) (c .hold .ensures)
+      length-set (l .samples) (l .x * a .height + a .y) (c .hold .result) ∙ l .inv .1,
+      row-again (a .height) (a .width) (a .y) (l .x) (l .samples) (a .s .now) (l .p) t (k .before .before .before .before .end-of .result) (k .before .v .given .0 .0) (k .before .v .given .0 .1 .0) (c .hold .result) (k .before .before .before .before .end-of .ensures) (sym (k .before .before .before .read-size .ensures) ∙ k .before .v .given .1) (c .hold .ensures)
           ∙ l .inv .2,
     )
 
 same-length-2 : tie.Need-same-length-2 Inv-loop μ-loop
-same-length-2 c = c .before .loop .inv .1 ∙ sym (c .before .before .before .before .pre .2)
+same-length-2 c = c .before .loop .inv .1 ∙ sym (c .before .before .before .before .pre .3)
 
 returns-2 : tie.Need-returns-2 Inv-loop μ-loop
 returns-2 c =
     let a = c .before .before .before .before .args in
     let l = c .before .loop in
-    sym (row-done (a .n) (a .y) (l .x) (l .samples) (a .s .now) (l .p) (omega (arith, c .loop-test .left))) ∙ l .inv .2
+    sym (row-done (a .height) (a .width) (a .y) (l .x) (l .samples) (a .s .now) (l .p) (omega (arith, c .loop-test .left))) ∙ l .inv .2
 
 pub read-row-spec : {M : Type 1} → statement M
 read-row-spec =

@@ -19,12 +19,12 @@ s1 k = let a = k .before .before .before .before .before .before .before .args i
 
 -- what the rows gave, after their place is known
 s2 : (j : tie.After-known-told2) → let k = j .before .before .before .before .before .before .before in let a = k .before .before .before .before .before .before .before .args in
-    got (j .before .before .before .before .before .read-rows .last .1 .1 .1 .0) (drop (j .before .end .given .0 .0) (a .s .now)) ≡ rowsOf (a .n) 0 (a .samples .now) (times (a .n) (plains (a .n)) (drop (k .before .p .given .0 .0) (a .s .now)))
+    got (j .before .before .before .before .before .read-rows .last .1 .1 .1 .1 .0) (drop (j .before .end .given .0 .0) (a .s .now)) ≡ rowsOf (a .height) 0 (a .samples .now) (times (a .height) (plains (a .width)) (drop (k .before .p .given .0 .0) (a .s .now)))
 s2 j =
     let k = j .before .before .before .before .before .before .before in
     let a = k .before .before .before .before .before .before .before .args in
     let r = j .before .before .before .before .before .read-rows in
-    ap (λ o. passed o (a .s .now) (r .last .1 .1 .1 .0)) (sym (j .before .end .given .1)) ∙ r .ensures
+    ap (λ o. passed o (a .s .now) (r .last .1 .1 .1 .1 .0)) (sym (j .before .end .given .1)) ∙ r .ensures
 
 slice-aggregate-skip-names : tie.Need-slice-aggregate-skip-names
 slice-aggregate-skip-names c = search needs
@@ -39,10 +39,10 @@ enum-told : tie.Need-enum-told
 enum-told c = search needs
 
 returns : tie.Need-returns
-returns c = let a = c .before .before .before .before .before .before .args in (no-names (a .n) (drop (a .at) (a .s .now)) (skip-none M (a .s .now) (a .at) (sym (c .before .before .skip-names .ensures) ∙ c .enum-told .given .1)), refl)
+returns c = let a = c .before .before .before .before .before .before .args in (no-names (a .height) (a .width) (drop (a .at) (a .s .now)) (skip-none M (a .s .now) (a .at) (sym (c .before .before .skip-names .ensures) ∙ c .enum-told .given .1)), refl)
 
 read-rows-requires : tie.Need-read-rows-requires
-read-rows-requires c κs = let s = c .before .before .before .before .before .before .before .before in (s .pre .1, s .pre .2)
+read-rows-requires c κs = let s = c .before .before .before .before .before .before .before .before in (s .pre .1, s .pre .2, s .pre .3)
 
 enum-known-end : tie.Need-enum-known-end
 enum-known-end c = search needs
@@ -51,17 +51,17 @@ enum-told-2 : tie.Need-enum-told-2
 enum-told-2 c = search needs
 
 same-length : tie.Need-same-length
-same-length c = c .before .before .before .before .read-rows .kept .1 .1 .1 .0
+same-length c = c .before .before .before .before .read-rows .kept .1 .1 .1 .1 .0
 
 returns-2 : tie.Need-returns-2
 returns-2 c =
     let r = c .before .before .before .before .read-rows in
     let k = c .before .before .before .before .before .before in
     let a = k .before .before .before .before .before .before .before .args in
-    (no-rows (a .n) (drop (a .at) (a .s .now)) (drop (k .before .p .given .0 .0) (a .s .now)) (s1 k .read) (a .samples .now) (ap (λ o. passed o (a .s .now) (r .last .1 .1 .1 .0)) (sym (c .enum-told2 .given .1)) ∙ r .ensures), refl)
+    (no-rows (a .height) (a .width) (drop (a .at) (a .s .now)) (drop (k .before .p .given .0 .0) (a .s .now)) (s1 k .read) (a .samples .now) (ap (λ o. passed o (a .s .now) (r .last .1 .1 .1 .1 .0)) (sym (c .enum-told2 .given .1)) ∙ r .ensures), refl)
 
 same-length-2 : tie.Need-same-length-2
-same-length-2 c = c .before .before .before .before .before .before .read-rows .kept .1 .1 .1 .0
+same-length-2 c = c .before .before .before .before .before .before .read-rows .kept .1 .1 .1 .1 .0
 
 returns-3 : tie.Need-returns-3
 returns-3 c =
@@ -69,13 +69,13 @@ returns-3 c =
     let k = j .before .before .before .before .before .before .before in
     let a = k .before .before .before .before .before .before .before .args in
     let e = j .before .end .given .0 .0 in (
-      goes-on (a .n) (drop (a .at) (a .s .now)) (drop (k .before .p .given .0 .0) (a .s .now)) (s1 k .read) (a .samples .now) (j .before .before .before .before .before .read-rows .last .1 .1 .1 .0) (drop e (a .s .now)) (s2 j)
+      goes-on (a .height) (a .width) (drop (a .at) (a .s .now)) (drop (k .before .p .given .0 .0) (a .s .now)) (s1 k .read) (a .samples .now) (j .before .before .before .before .before .read-rows .last .1 .1 .1 .1 .0) (drop e (a .s .now)) (s2 j)
           (omega (arith, length-drop e (a .s .now), c .if1 .taken)),
       refl,
     )
 
 same-length-3 : tie.Need-same-length-3
-same-length-3 c = c .before .before .before .before .before .before .read-rows .kept .1 .1 .1 .0
+same-length-3 c = c .before .before .before .before .before .before .read-rows .kept .1 .1 .1 .1 .0
 
 returns-4 : tie.Need-returns-4
 returns-4 c =
@@ -84,8 +84,8 @@ returns-4 c =
     let s = k .before .before .before .before .before .before .before in
     let a = s .args in
     let e = j .before .end .given .0 .0 in
-    stored (a .n) (drop (a .at) (a .s .now)) (drop (k .before .p .given .0 .0) (a .s .now)) (s1 k .read) (a .samples .now) (j .before .before .before .before .before .read-rows .last .1 .1 .1 .0) (drop e (a .s .now)) (s2 j)
-    (omega (arith, length-drop e (a .s .now), c .if1 .left)) (s .pre .2)
+    stored (a .height) (a .width) (drop (a .at) (a .s .now)) (drop (k .before .p .given .0 .0) (a .s .now)) (s1 k .read) (a .samples .now) (j .before .before .before .before .before .read-rows .last .1 .1 .1 .1 .0) (drop e (a .s .now)) (s2 j)
+    (omega (arith, length-drop e (a .s .now), c .if1 .left)) (s .pre .3)
 
 pub read-samples-spec : {M : Type 1} → statement M
 read-samples-spec =

@@ -20,19 +20,19 @@ use Rattle.places.proofs.checks.in_range.Statement.{statement}
 use Rattle.places.proofs.checks.in_range.Tie as tie
 
 abbrev fitsAt : ℕ → ℕ → List ℤ → Place → Bool
-fitsAt levels side plane p = fitsRange levels p (at (imageOf side plane) p)
+fitsAt levels height plane p = fitsRange levels p (at (imageOf height plane) p)
 
 abbrev Inv-loop : tie.InvT-loop
-Inv-loop plane side levels k₀ k = Inside side k × (every (fitsAt levels side plane) (entriesLeft k) ≡ every (fitsAt levels side plane) (planePlaces levels side side))
+Inv-loop plane height width levels k₀ k = Inside height width k × (every (fitsAt levels height plane) (entriesLeft k) ≡ every (fitsAt levels height plane) (planePlaces levels height width))
 
 abbrev μ-loop : tie.MeasureT-loop
-μ-loop plane side levels k₀ k = length (entriesLeft k)
+μ-loop plane height width levels k₀ k = length (entriesLeft k)
 
 first-entry-requires : tie.Need-first-entry-requires Inv-loop μ-loop
 first-entry-requires c κs = (c .pre .0 .0, c .pre .0 .1)
 
 loop-holds : tie.Need-loop-holds Inv-loop μ-loop
-loop-holds c = let a = c .before .args in (c .first-entry .ensures .0, ap (every (fitsAt (a .levels) (a .side) (a .plane .now))) (c .first-entry .ensures .1))
+loop-holds c = let a = c .before .args in (c .first-entry .ensures .0, ap (every (fitsAt (a .levels) (a .height) (a .plane .now))) (c .first-entry .ensures .1))
 
 index-of-requires : tie.Need-index-of-requires Inv-loop μ-loop
 index-of-requires c κs = c .before .before .loop .inv .0
@@ -46,13 +46,13 @@ shared-slice-copy-out-v c = omega (arith, c .index-of .ensures .1, c .before .be
 fits-range-requires : tie.Need-fits-range-requires Inv-loop μ-loop
 fits-range-requires c κs =
     let s = c .before .before .before .before .before .before in
-    let q = passed (s .args .side) (s .args .levels) (s .pre .0 .0) (s .pre .0 .1) in
+    let q = passed (s .args .height) (s .args .width) (s .args .levels) (s .pre .0 .0) (s .pre .0 .1) in
     let i = c .before .before .before .before .loop .inv .0 in
-    (omega (arith, q .levels, q .log-high), i .level, omega (arith, i .levels, c .before .before .if1 .taken))
+    (omega (arith, q .few), i .level, omega (arith, i .levels, c .before .before .if1 .taken))
 
 -- what was tested is the entry of the plane at the present place
 tested : (c : tie.After-fits-range Inv-loop μ-loop) → let s = c .before .before .before .before .before .before .before in let k = c .before .before .before .before .before .loop .k in
-    c .fits-range .result ≡ fitsAt (s .args .levels) (s .args .side) (s .args .plane .now) (entryOf k)
+    c .fits-range .result ≡ fitsAt (s .args .levels) (s .args .height) (s .args .plane .now) (entryOf k)
 tested c =
     let s = c .before .before .before .before .before .before .before in
     let k = c .before .before .before .before .before .loop .k in
@@ -67,7 +67,7 @@ unfolding inRange
 returns c =
     let s = c .before .before .before .before .before .before .before .before in
     let l = c .before .before .before .before .before .before .loop in
-    let F = fitsAt (s .args .levels) (s .args .side) (s .args .plane .now) in
+    let F = fitsAt (s .args .levels) (s .args .height) (s .args .plane .now) in
     let t = first-of (c .before) in
     sym (ap (every F) (t .1) ∙ ap (λ (b : Bool). b && every F (t .0)) (sym (tested (c .before)) ∙ not-true _ (c .if2 .taken))) ∙ l .inv .1
 
@@ -81,7 +81,7 @@ loop-again : tie.Need-loop-again Inv-loop μ-loop
 loop-again c =
     let s = c .before .before .before .before .before .before .before .before .before in
     let l = c .before .before .before .before .before .before .before .loop in
-    let F = fitsAt (s .args .levels) (s .args .side) (s .args .plane .now) in (
+    let F = fitsAt (s .args .levels) (s .args .height) (s .args .plane .now) in (
       c .step .ensures .inside,
       sym (ap (every F) (c .step .ensures .entries) ∙ ap (λ (b : Bool). b && every F (entriesLeft (c .step .result))) (sym (tested (c .before .before)) ∙ not-false _ (c .before .if2 .left))) ∙ l .inv .1,
     )
@@ -91,7 +91,7 @@ unfolding inRange
 returns-2 c =
     let s = c .before .before .before .before in
     let l = c .before .before .loop in
-    let F = fitsAt (s .args .levels) (s .args .side) (s .args .plane .now) in
+    let F = fitsAt (s .args .levels) (s .args .height) (s .args .plane .now) in
     sym (ap (every F) (ended entryAt (l .k) (omega (arith, c .if1 .left)))) ∙ l .inv .1
 
 pub in-range-spec : {M : Type 1} → statement M

@@ -17,13 +17,13 @@ across-of-requires : tie.Need-across-of-requires
 across-of-requires c κs = search needs
 
 -- the index is in the plane, which is small
-spot : (c : tie.After-across-of) → let n = c .before .before .args .side in c .across-of .result * n + c .before .down-of .result < n * n
+spot : (c : tie.After-across-of) → let a = c .before .before .args in c .across-of .result * a .height + c .before .down-of .result < a .width * a .height
 spot c =
-    let n = c .before .before .args .side in
-    index-bound (c .across-of .result) (c .before .down-of .result) n n (c .across-of .ensures .1) (c .before .down-of .ensures .1)
+    let a = c .before .before .args in
+    index-bound (c .across-of .result) (c .before .down-of .result) (a .width) (a .height) (c .across-of .ensures .1) (c .before .down-of .ensures .1)
 
-small : (c : tie.After-across-of) → let n = c .before .before .args .side in n * n ≤ 262144
-small c = let s : c .before .before .args .side ≤ 512 = omega arith in mul-le-mul s s
+small : (c : tie.After-across-of) → let a = c .before .before .args in a .width * a .height ≤ 262144
+small c = let i = c .before .before .pre in mul-le-mul (i .across) (i .down)
 
 mul-result : tie.Need-mul-result
 mul-result c = omega (arith, spot c, small c)
@@ -35,7 +35,7 @@ cast-result : tie.Need-cast-result
 cast-result c = omega (arith, spot c, small c)
 
 returns : tie.Need-returns
-returns c = let n = c .before .before .args .side in ((λ i. c .across-of .ensures .0 i * n + c .before .down-of .ensures .0 i), spot c)
+returns c = let n = c .before .before .args .height in ((λ i. c .across-of .ensures .0 i * n + c .before .down-of .ensures .0 i), spot c)
 
 pub index-of-spec : {M : Type 1} → statement M
 index-of-spec =

@@ -6,7 +6,7 @@ use Rattle.places.proofs.walk.first_block.Statement.{statement}
 use Rattle.places.proofs.walk.first_block.Tie as tie
 
 returns : tie.Need-returns
-returns c = let a = c .args in (block-start (a .n) (a .levels) (passed (a .n) (a .levels) (c .pre .0) (c .pre .1)), blocks-all (a .n) (a .levels))
+returns c = let a = c .args in (block-start (a .height) (a .width) (a .levels) (passed (a .height) (a .width) (a .levels) (c .pre .0) (c .pre .1)), blocks-all (a .height) (a .width) (a .levels))
 
 pub first-block-spec : {M : Type 1} → statement M
 first-block-spec = tie.close (tie.spec returns)

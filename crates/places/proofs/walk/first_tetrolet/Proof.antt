@@ -5,7 +5,7 @@ use Rattle.places.proofs.walk.first_tetrolet.Statement.{statement}
 use Rattle.places.proofs.walk.first_tetrolet.Tie as tie
 
 returns : tie.Need-returns
-returns c = let q = passed (c .args .n) (c .args .levels) (c .pre .0) (c .pre .1) in (tetrolet-start (c .args .n) (c .args .levels) q, tetrolets-all (c .args .n) (c .args .levels))
+returns c = let a = c .args in (tetrolet-start (a .height) (a .width) (a .levels) (passed (a .height) (a .width) (a .levels) (c .pre .0) (c .pre .1)), tetrolets-all (a .height) (a .width) (a .levels))
 
 pub first-tetrolet-spec : {M : Type 1} → statement M
 first-tetrolet-spec = tie.close (tie.spec returns)

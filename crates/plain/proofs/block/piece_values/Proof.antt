@@ -5,10 +5,10 @@ use Rattle.plain.proofs.block.piece_values.Statement.{statement}
 use Rattle.plain.proofs.block.piece_values.Tie as tie
 
 abbrev Inv-loop : tie.InvT-loop
-Inv-loop words covering piece square at q₀ cell₀ q cell = Unit
+Inv-loop words covering piece image at q₀ cell₀ q cell = Unit
 
 abbrev μ-loop : tie.MeasureT-loop
-μ-loop words covering piece square at q₀ cell₀ q cell = 16 - cell
+μ-loop words covering piece image at q₀ cell₀ q cell = 16 - cell
 
 loop-holds : tie.Need-loop-holds Inv-loop μ-loop
 loop-holds c = search needs

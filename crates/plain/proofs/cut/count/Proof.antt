@@ -5,10 +5,10 @@ use Rattle.plain.proofs.cut.count.Statement.{statement}
 use Rattle.plain.proofs.cut.count.Tie as tie
 
 abbrev Inv-loop : tie.InvT-loop
-Inv-loop side levels plane end found₀ n₀ found n = Unit
+Inv-loop extent levels plane end found₀ n₀ found n = Unit
 
 abbrev μ-loop : tie.MeasureT-loop
-μ-loop side levels plane end found₀ n₀ found n = end - n
+μ-loop extent levels plane end found₀ n₀ found n = end - n
 
 area-requires : tie.Need-area-requires Inv-loop μ-loop
 area-requires c κs = tt

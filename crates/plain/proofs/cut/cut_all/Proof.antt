@@ -7,10 +7,10 @@ use Rattle.plain.proofs.cut.cut_all.Statement.{statement}
 use Rattle.plain.proofs.cut.cut_all.Tie as tie
 
 abbrev Inv-loop : tie.InvT-loop
-Inv-loop side levels plane₀ threshold end n₀ plane n = length plane ≡ length plane₀
+Inv-loop extent levels plane₀ threshold end n₀ plane n = length plane ≡ length plane₀
 
 abbrev μ-loop : tie.MeasureT-loop
-μ-loop side levels plane₀ threshold end n₀ plane n = end - n
+μ-loop extent levels plane₀ threshold end n₀ plane n = end - n
 
 area-requires : tie.Need-area-requires Inv-loop μ-loop
 area-requires c κs = tt

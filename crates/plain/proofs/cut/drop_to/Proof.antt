@@ -7,10 +7,10 @@ use Rattle.plain.proofs.cut.drop_to.Statement.{statement}
 use Rattle.plain.proofs.cut.drop_to.Tie as tie
 
 abbrev Inv-loop : tie.InvT-loop
-Inv-loop side levels plane₀ found quota left₀ plane left = length plane ≡ length plane₀
+Inv-loop extent levels plane₀ found quota left₀ plane left = length plane ≡ length plane₀
 
 abbrev μ-loop : tie.MeasureT-loop
-μ-loop side levels plane₀ found quota left₀ plane left = left - quota
+μ-loop extent levels plane₀ found quota left₀ plane left = left - quota
 
 loop-holds : tie.Need-loop-holds Inv-loop μ-loop
 loop-holds c = search needs

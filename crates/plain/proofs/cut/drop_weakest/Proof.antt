@@ -5,10 +5,10 @@ use Rattle.plain.proofs.cut.drop_weakest.Statement.{statement}
 use Rattle.plain.proofs.cut.drop_weakest.Tie as tie
 
 abbrev Inv-loop : tie.InvT-loop
-Inv-loop side levels plane end lowest₀ at₀ n₀ lowest at n = Unit
+Inv-loop extent levels plane end lowest₀ at₀ n₀ lowest at n = Unit
 
 abbrev μ-loop : tie.MeasureT-loop
-μ-loop side levels plane end lowest₀ at₀ n₀ lowest at n = end - n
+μ-loop extent levels plane end lowest₀ at₀ n₀ lowest at n = end - n
 
 area-requires : tie.Need-area-requires Inv-loop μ-loop
 area-requires c κs = tt

@@ -7,10 +7,10 @@ use Rattle.plain.proofs.pyramid.join.Statement.{statement}
 use Rattle.plain.proofs.pyramid.join.Tie as tie
 
 abbrev Inv-loop : tie.InvT-loop
-Inv-loop words coverings plane₀ scratch₀ side levels done₀ plane scratch done = (length plane ≡ length plane₀) × (length scratch ≡ length scratch₀)
+Inv-loop words coverings plane₀ scratch₀ extent levels done₀ plane scratch done = (length plane ≡ length plane₀) × (length scratch ≡ length scratch₀)
 
 abbrev μ-loop : tie.MeasureT-loop
-μ-loop words coverings plane₀ scratch₀ side levels done₀ plane scratch done = levels - done
+μ-loop words coverings plane₀ scratch₀ extent levels done₀ plane scratch done = levels - done
 
 loop-holds : tie.Need-loop-holds Inv-loop μ-loop
 loop-holds c = search needs

@@ -7,10 +7,10 @@ use Rattle.plain.proofs.pyramid.join_cells.Statement.{statement}
 use Rattle.plain.proofs.pyramid.join_cells.Tie as tie
 
 abbrev Inv-loop : tie.InvT-loop
-Inv-loop words covering square plane₀ side levels p labels cell₀ plane cell = length plane ≡ length plane₀
+Inv-loop words covering image plane₀ extent levels p labels cell₀ plane cell = length plane ≡ length plane₀
 
 abbrev μ-loop : tie.MeasureT-loop
-μ-loop words covering square plane₀ side levels p labels cell₀ plane cell = 16 - cell
+μ-loop words covering image plane₀ extent levels p labels cell₀ plane cell = 16 - cell
 
 best-labels-requires : tie.Need-best-labels-requires Inv-loop μ-loop
 best-labels-requires c κs = tt

@@ -7,13 +7,13 @@ use Rattle.plain.proofs.pyramid.join_level.Statement.{statement}
 use Rattle.plain.proofs.pyramid.join_level.Tie as tie
 
 abbrev Inv-loop : tie.InvT-loop
-Inv-loop words coverings plane₀ scratch side levels level blocks n₀ plane n = length plane ≡ length plane₀
+Inv-loop words coverings plane₀ scratch extent levels level blocks n₀ plane n = length plane ≡ length plane₀
 
 abbrev μ-loop : tie.MeasureT-loop
-μ-loop words coverings plane₀ scratch side levels level blocks n₀ plane n = blocks - n
+μ-loop words coverings plane₀ scratch extent levels level blocks n₀ plane n = blocks - n
 
-copy-square-requires : tie.Need-copy-square-requires Inv-loop μ-loop
-copy-square-requires c κs = tt
+copy-image-requires : tie.Need-copy-image-requires Inv-loop μ-loop
+copy-image-requires c κs = tt
 
 level-blocks-requires : tie.Need-level-blocks-requires Inv-loop μ-loop
 level-blocks-requires c κs = tt
@@ -48,7 +48,7 @@ join-level-spec =
     (tie.spec
     Inv-loop
     μ-loop
-    copy-square-requires
+    copy-image-requires
     level-blocks-requires
     loop-holds
     join-block-requires

@@ -7,13 +7,13 @@ use Rattle.plain.proofs.pyramid.split_level.Statement.{statement}
 use Rattle.plain.proofs.pyramid.split_level.Tie as tie
 
 abbrev Inv-loop : tie.InvT-loop
-Inv-loop words plane₀ scratch coverings₀ side level blocks n₀ plane coverings n = (length plane ≡ length plane₀) × (length coverings ≡ length coverings₀)
+Inv-loop words plane₀ scratch coverings₀ extent level blocks n₀ plane coverings n = (length plane ≡ length plane₀) × (length coverings ≡ length coverings₀)
 
 abbrev μ-loop : tie.MeasureT-loop
-μ-loop words plane₀ scratch coverings₀ side level blocks n₀ plane coverings n = blocks - n
+μ-loop words plane₀ scratch coverings₀ extent level blocks n₀ plane coverings n = blocks - n
 
-copy-square-requires : tie.Need-copy-square-requires Inv-loop μ-loop
-copy-square-requires c κs = tt
+copy-image-requires : tie.Need-copy-image-requires Inv-loop μ-loop
+copy-image-requires c κs = tt
 
 level-blocks-requires : tie.Need-level-blocks-requires Inv-loop μ-loop
 level-blocks-requires c κs = tt
@@ -51,7 +51,7 @@ split-level-spec =
     (tie.spec
     Inv-loop
     μ-loop
-    copy-square-requires
+    copy-image-requires
     level-blocks-requires
     loop-holds
     split-block-requires

@@ -7,10 +7,10 @@ use Rattle.plain.proofs.pyramid.split_pieces.Statement.{statement}
 use Rattle.plain.proofs.pyramid.split_pieces.Tie as tie
 
 abbrev Inv-loop : tie.InvT-loop
-Inv-loop words covering square plane₀ side p labels piece₀ plane piece = length plane ≡ length plane₀
+Inv-loop words covering image plane₀ extent p labels piece₀ plane piece = length plane ≡ length plane₀
 
 abbrev μ-loop : tie.MeasureT-loop
-μ-loop words covering square plane₀ side p labels piece₀ plane piece = 4 - piece
+μ-loop words covering image plane₀ extent p labels piece₀ plane piece = 4 - piece
 
 best-labels-requires : tie.Need-best-labels-requires Inv-loop μ-loop
 best-labels-requires c κs = tt

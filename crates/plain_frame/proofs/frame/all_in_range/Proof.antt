@@ -5,10 +5,10 @@ use Rattle.plain_frame.proofs.frame.all_in_range.Statement.{statement}
 use Rattle.plain_frame.proofs.frame.all_in_range.Tie as tie
 
 abbrev Inv-loop : tie.InvT-loop
-Inv-loop side levels plane end n₀ n = Unit
+Inv-loop extent levels plane end n₀ n = Unit
 
 abbrev μ-loop : tie.MeasureT-loop
-μ-loop side levels plane end n₀ n = end - n
+μ-loop extent levels plane end n₀ n = end - n
 
 area-requires : tie.Need-area-requires Inv-loop μ-loop
 area-requires c κs = tt

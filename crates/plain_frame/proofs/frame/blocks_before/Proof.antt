@@ -5,10 +5,10 @@ use Rattle.plain_frame.proofs.frame.blocks_before.Statement.{statement}
 use Rattle.plain_frame.proofs.frame.blocks_before.Tie as tie
 
 abbrev Inv-loop : tie.InvT-loop
-Inv-loop side level sum₀ r₀ sum r = Unit
+Inv-loop extent level sum₀ r₀ sum r = Unit
 
 abbrev μ-loop : tie.MeasureT-loop
-μ-loop side level sum₀ r₀ sum r = level - r
+μ-loop extent level sum₀ r₀ sum r = level - r
 
 loop-holds : tie.Need-loop-holds Inv-loop μ-loop
 loop-holds c = search needs

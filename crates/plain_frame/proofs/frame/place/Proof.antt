@@ -5,10 +5,10 @@ use Rattle.plain_frame.proofs.frame.place.Statement.{statement}
 use Rattle.plain_frame.proofs.frame.place.Tie as tie
 
 abbrev Inv-loop : tie.InvT-loop
-Inv-loop side levels n left₀ level₀ left level = Unit
+Inv-loop extent levels n left₀ level₀ left level = Unit
 
 abbrev μ-loop : tie.MeasureT-loop
-μ-loop side levels n left₀ level₀ left level = levels - level
+μ-loop extent levels n left₀ level₀ left level = levels - level
 
 loop-holds : tie.Need-loop-holds Inv-loop μ-loop
 loop-holds c = search needs

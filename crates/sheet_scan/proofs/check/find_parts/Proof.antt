@@ -1,5 +1,5 @@
 -- `sheet_scan::check::find_parts` meets its contract. Assumes nothing.
-use mathlib.Core.Path.{_≡_, refl, sym, ap, _∙_}
+use mathlib.Core.Path.{_≡_, sym, _∙_}
 use mathlib.Core.List.{List}
 use Prim.Native.Nat.{ℕ}
 use native.Mathlib.Omega.{arith}
@@ -10,8 +10,8 @@ use lib.ListN.{length}
 use Rattle.text.specs.Text.{parse}
 use Rattle.sheet_text.specs.Forms.{sheetForm}
 use Rattle.sheet_text.specs.Sheet.{isSome}
-use Rattle.text.specs.Lines.{two, four, five}
-use Rattle.text.proofs.Many.{TwoLine, two-line, SkipRead, RowRead, RowsRead, skip-at, skip-none, two-at, two-none, rows-at}
+use Rattle.text.specs.Lines.{three, four, five}
+use Rattle.text.proofs.Many.{three-line, SkipRead, RowRead, RowsRead, skip-at, skip-none, three-at, three-none, rows-at}
 use Rattle.sheet_text.proofs.Laws.{laws}
 use Rattle.sheet_scan.proofs.Whole.{N1, N2, N3, no-1, no-2, no-3, no-4, at-end, laid}
 use Rattle.sheet_scan.proofs.check.find_parts.Statement.{statement}
@@ -20,7 +20,7 @@ use Rattle.sheet_scan.proofs.check.find_parts.Tie as tie
 slice-aggregate-names-at : tie.Need-slice-aggregate-names-at
 slice-aggregate-names-at c = search needs
 
--- what was read so far: after the first names, the line of two, the second names, the block lines and the third names
+-- what was read so far: after the first names, the line of three, the second names, the block lines and the third names
 abbrev K1 : Type 0
 K1 = tie.After-known-told
 
@@ -33,8 +33,8 @@ s1 k = skip-at N1 (S k) 0 (k .before .p .given .0 .0) (sym (k .before .before .b
 abbrev K2 : Type 0
 K2 = tie.After-known-told2
 
-s2 : (k : K2) → RowRead two (S (k .before .before .before .before)) (k .before .before .before .before .before .p .given .0 .0) (k .before .h .given .0 .0 .next)
-s2 k = two-at (S (k .before .before .before .before)) (k .before .before .before .before .before .p .given .0 .0) (k .before .h .given .0 .0) (sym (k .before .before .before .two-at .ensures) ∙ k .before .h .given .1)
+s2 : (k : K2) → RowRead three (S (k .before .before .before .before)) (k .before .before .before .before .before .p .given .0 .0) (k .before .h .given .0 .0 .next)
+s2 k = three-at (S (k .before .before .before .before)) (k .before .before .before .before .before .p .given .0 .0) (k .before .h .given .0 .0) (sym (k .before .before .before .three-at .ensures) ∙ k .before .h .given .1)
 
 abbrev K3 : Type 0
 K3 = tie.After-known-told3
@@ -66,8 +66,8 @@ enum-told c = search needs
 returns : tie.Need-returns
 returns c = (let s = c .before .before .before .before .before .args .s .now in sym (no-1 s (skip-none N1 s 0 (sym (c .before .before .names-at .ensures) ∙ c .enum-told .given .1))), laws)
 
-two-at-requires : tie.Need-two-at-requires
-two-at-requires c κs = search needs
+three-at-requires : tie.Need-three-at-requires
+three-at-requires c κs = search needs
 
 enum-known-h : tie.Need-enum-known-h
 enum-known-h c = search needs
@@ -79,7 +79,7 @@ returns-2 : tie.Need-returns-2
 returns-2 c = (
   let k = c .before .before .before in
       let p = k .before .p .given .0 .0 in
-      sym (no-2 (S k) p (s1 k) (two-none (S k) p (sym (c .before .before .two-at .ensures) ∙ c .enum-told2 .given .1))),
+      sym (no-2 (S k) p (s1 k) (three-none (S k) p (sym (c .before .before .three-at .ensures) ∙ c .enum-told2 .given .1))),
   laws,
 )
 
@@ -161,7 +161,7 @@ returns-6 c =
     let p = k .before .p .given .0 .0 in
     let f = j .before .h .given .0 .0 in
     let e = c .if1 .left in
-    let y = two-line (S k) p f (sym (j .before .before .before .two-at .ensures) ∙ j .before .h .given .1) in (
+    let y = three-line (S k) p f (sym (j .before .before .before .three-at .ensures) ∙ j .before .h .given .1) in (
       laid (S k) p (i .before .t .given .0 .0) (h .survey-blocks .result .past) (g .before .v .given .0 .0) (x .survey-entries .result .past) f (h .survey-blocks .result .ordered) (h .survey-blocks .result .numbered) (x .survey-entries .result .rising) (x .survey-entries .result .fitting) (s1 k) y (s3 i) (s4 h) (s5 g) (s6 x) (sym (ends x) ∙ eq-eqb _ _ e) (omega (arith, e)) (h .survey-blocks .ensures .1) (x .survey-entries .ensures .1),
       laws,
     )
@@ -175,7 +175,7 @@ find-parts-spec =
     enum-known-p
     enum-told
     returns
-    two-at-requires
+    three-at-requires
     enum-known-h
     enum-told-2
     returns-2

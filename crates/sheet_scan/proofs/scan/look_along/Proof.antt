@@ -26,14 +26,14 @@ use Rattle.sheet_scan.proofs.scan.look_along.Statement.{statement}
 use Rattle.sheet_scan.proofs.scan.look_along.Tie as tie
 
 abbrev Inv-loop : tie.InvT-loop
-Inv-loop s at side levels k₀ p₀ line₀ rising₀ fitting₀ k p line rising fitting =
-    Inside side k × (p ≤ length s) × (fivesAt s p ≡ fivesAt s at)
-    × ((rising && isSome (valuesOf (entriesLeft k) (linesAt five s p))) ≡ isSome (valuesOf (planePlaces levels side side) (linesAt five s at)))
-    × ((fitting && fitAlong levels (entriesLeft k) (linesAt five s p)) ≡ fitAlong levels (planePlaces levels side side) (linesAt five s at))
+Inv-loop s at height width levels k₀ p₀ line₀ rising₀ fitting₀ k p line rising fitting =
+    Inside height width k × (p ≤ length s) × (fivesAt s p ≡ fivesAt s at)
+    × ((rising && isSome (valuesOf (entriesLeft k) (linesAt five s p))) ≡ isSome (valuesOf (planePlaces levels height width) (linesAt five s at)))
+    × ((fitting && fitAlong levels (entriesLeft k) (linesAt five s p)) ≡ fitAlong levels (planePlaces levels height width) (linesAt five s at))
     × (line ≡ fiveAt s p)
 
 abbrev μ-loop : tie.MeasureT-loop
-μ-loop s at side levels k₀ p₀ line₀ rising₀ fitting₀ k p line rising fitting = length (entriesLeft k)
+μ-loop s at height width levels k₀ p₀ line₀ rising₀ fitting₀ k p line rising fitting = length (entriesLeft k)
 
 -- what was tested is what the lines say of the present place
 tested : (c : tie.After-fits-here Inv-loop μ-loop) → let a = c .before .before .before .before .before .before .before .before .before .args in let l = c .before .before .before .before .before .loop in
@@ -63,9 +63,9 @@ look-requires c κs = c .before .before .loop .inv .5
 fits-here-requires : tie.Need-fits-here-requires Inv-loop μ-loop
 fits-here-requires c κs =
     let s = c .before .before .before .before .before .before .before .before in
-    let q = passed (s .args .side) (s .args .levels) (s .pre .0) (s .pre .1) in
+    let q = passed (s .args .height) (s .args .width) (s .args .levels) (s .pre .0) (s .pre .1) in
     let i = c .before .before .before .before .loop .inv .0 in
-    (omega (arith, q .levels, q .log-high), i .level, omega (arith, i .levels, c .before .before .if1 .taken))
+    (omega (arith, q .few), i .level, omega (arith, i .levels, c .before .before .if1 .taken))
 
 both-requires : tie.Need-both-requires Inv-loop μ-loop
 both-requires c κs = search needs

@@ -30,10 +30,10 @@ unfolding storedAlong
 store-end h rs plane = refl
 
 abbrev Inv-loop : tie.InvT-loop
-Inv-loop plane₀ s at side levels k₀ p₀ line₀ plane k p line = Inside side k × (length plane ≡ length plane₀) × (storedAlong side (entriesLeft k) (linesAt five s p) plane ≡ storedAlong side (planePlaces levels side side) (linesAt five s at) plane₀) × (line ≡ fiveAt s p)
+Inv-loop plane₀ s at height width levels k₀ p₀ line₀ plane k p line = Inside height width k × (length plane ≡ length plane₀) × (storedAlong height (entriesLeft k) (linesAt five s p) plane ≡ storedAlong height (planePlaces levels height width) (linesAt five s at) plane₀) × (line ≡ fiveAt s p)
 
 abbrev μ-loop : tie.MeasureT-loop
-μ-loop plane₀ s at side levels k₀ p₀ line₀ plane k p line = length (entriesLeft k)
+μ-loop plane₀ s at height width levels k₀ p₀ line₀ plane k p line = length (entriesLeft k)
 
 first-entry-requires : tie.Need-first-entry-requires Inv-loop μ-loop
 first-entry-requires c κs = (c .before .pre .0 .0, c .before .pre .0 .1)
@@ -44,7 +44,7 @@ read-five-requires c κs = search needs
 loop-holds : tie.Need-loop-holds Inv-loop μ-loop
 loop-holds c =
     let a = c .before .before .before .args in
-    (c .before .first-entry .ensures .0, refl, ap (λ ps. storedAlong (a .side) ps (linesAt five (a .s .now) (a .at)) (a .plane .now)) (c .before .first-entry .ensures .1), c .read-five .ensures)
+    (c .before .first-entry .ensures .0, refl, ap (λ ps. storedAlong (a .height) ps (linesAt five (a .s .now) (a .at)) (a .plane .now)) (c .before .first-entry .ensures .1), c .read-five .ensures)
 
 look-requires : tie.Need-look-requires Inv-loop μ-loop
 look-requires c κs = c .before .before .loop .inv .3
@@ -78,8 +78,8 @@ loop-again c =
     let v : toZ w64 (ofZ w64 (h .result .value)) ≡ valueHere p rs = toZ-ofZ {w = w64} (sfits (h .result .value) (h .ensures .3)) ∙ h .ensures .0 in (
       c .step .ensures .inside,
       length-set (l .plane) (c .before .before .index-of .result) (toZ w64 (ofZ w64 (h .result .value))) ∙ l .inv .1,
-      (λ i. storedAlong (a .side) t (h .ensures .2 i) (set (l .plane) (c .before .before .index-of .ensures .0 i) (v i)))
-          ∙ sym (store-next (a .side) p t rs (l .plane)) ∙ sym (ap (λ ps. storedAlong (a .side) ps rs (l .plane)) (c .step .ensures .entries)) ∙ l .inv .2,
+      (λ i. storedAlong (a .height) t (h .ensures .2 i) (set (l .plane) (c .before .before .index-of .ensures .0 i) (v i)))
+          ∙ sym (store-next (a .height) p t rs (l .plane)) ∙ sym (ap (λ ps. storedAlong (a .height) ps rs (l .plane)) (c .step .ensures .entries)) ∙ l .inv .2,
       c .before .read-on .ensures,
     )
 
@@ -91,7 +91,7 @@ returns c =
     let a = c .before .before .before .before .before .before .args in
     let l = c .before .before .loop in
     let rs = linesAt five (a .s .now) (l .p) in
-    sym (ap (λ ps. storedAlong (a .side) ps rs (l .plane)) (ended entryAt (l .k) (omega (arith, c .if1 .left))) ∙ store-end (a .side) rs (l .plane)) ∙ l .inv .2
+    sym (ap (λ ps. storedAlong (a .height) ps rs (l .plane)) (ended entryAt (l .k) (omega (arith, c .if1 .left))) ∙ store-end (a .height) rs (l .plane)) ∙ l .inv .2
 
 pub store-values-spec : {M : Type 1} → statement M
 store-values-spec =

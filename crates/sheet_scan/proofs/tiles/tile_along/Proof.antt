@@ -23,13 +23,13 @@ use Rattle.sheet_scan.proofs.tiles.tile_along.Statement.{statement}
 use Rattle.sheet_scan.proofs.tiles.tile_along.Tie as tie
 
 abbrev Inv-loop : tie.InvT-loop
-Inv-loop s at side levels k₀ p₀ ordered₀ numbered₀ k p ordered numbered =
-    Inside side k × (p ≤ length s) × (foursAt s p ≡ foursAt s at)
-    × ((ordered && isSome (coversOf (blocksLeft k) (linesAt four s p))) ≡ isSome (coversOf (blockPlaces levels side side) (linesAt four s at)))
+Inv-loop s at height width levels k₀ p₀ ordered₀ numbered₀ k p ordered numbered =
+    Inside height width k × (p ≤ length s) × (foursAt s p ≡ foursAt s at)
+    × ((ordered && isSome (coversOf (blocksLeft k) (linesAt four s p))) ≡ isSome (coversOf (blockPlaces levels height width) (linesAt four s at)))
     × ((numbered && every isNumber (coversAlong (linesAt four s p))) ≡ every isNumber (coversAlong (linesAt four s at)))
 
 abbrev μ-loop : tie.MeasureT-loop
-μ-loop s at side levels k₀ p₀ ordered₀ numbered₀ k p ordered numbered = length (blocksLeft k)
+μ-loop s at height width levels k₀ p₀ ordered₀ numbered₀ k p ordered numbered = length (blocksLeft k)
 
 -- the line that was read, and where it ends
 line : (k : tie.After-known-told Inv-loop μ-loop) → FourLine (k .before .before .before .before .before .before .before .before .before .args .s .now) (k .before .before .before .before .before .before .loop .p) (k .before .f .given .0 .0)

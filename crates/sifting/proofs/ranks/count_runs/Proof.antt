@@ -14,18 +14,18 @@ use Rattle.sifting.proofs.ranks.count_runs.Statement.{statement}
 use Rattle.sifting.proofs.ranks.count_runs.Tie as tie
 
 abbrev Inv-loop : tie.InvT-loop
-Inv-loop side levels plane base shift counts₀ k₀ counts k = Running levels side base (2 ^ shift) plane counts k
+Inv-loop height width levels plane base shift counts₀ k₀ counts k = Running levels height width base (2 ^ shift) plane counts k
 
 abbrev μ-loop : tie.MeasureT-loop
-μ-loop side levels plane base shift counts₀ k₀ counts k = length (entriesLeft k)
+μ-loop height width levels plane base shift counts₀ k₀ counts k = length (entriesLeft k)
 
 first-tetrolet-requires : tie.Need-first-tetrolet-requires Inv-loop μ-loop
-first-tetrolet-requires c κs = (c .pre .0 .side-is, c .pre .0 .depth-is)
+first-tetrolet-requires c κs = (c .pre .0 .sided, c .pre .0 .deep)
 
 loop-holds : tie.Need-loop-holds Inv-loop μ-loop
 loop-holds c =
     let a = c .before .args in
-    record { number = 0; place = at-start (a .levels) (a .side) (c .first-tetrolet .result) (c .first-tetrolet .ensures .0) (c .first-tetrolet .ensures .1); long = c .before .pre .1 .1 .long; runs = c .before .pre .1 .1 .zeros }
+    record { number = 0; place = at-start (a .levels) (a .height) (a .width) (c .first-tetrolet .result) (c .first-tetrolet .ensures .0) (c .first-tetrolet .ensures .1); long = c .before .pre .1 .1 .long; runs = c .before .pre .1 .1 .zeros }
 
 index-of-requires : tie.Need-index-of-requires Inv-loop μ-loop
 index-of-requires c κs = c .before .before .loop .inv .place .inside
@@ -40,22 +40,22 @@ rank-of-requires : tie.Need-rank-of-requires Inv-loop μ-loop
 rank-of-requires c κs =
     let s = c .before .before .before .before .before .before in
     let l = c .before .before .before .before .loop in
-    let h = here-now (s .args .levels) (s .args .side) (s .args .plane .now) (s .pre .0) (l .k) (l .inv .number) (l .inv .place) (c .before .before .if1 .taken) in
+    let h = here-now (s .args .levels) (s .args .height) (s .args .width) (s .args .plane .now) (s .pre .0) (l .k) (l .inv .number) (l .inv .place) (c .before .before .if1 .taken) in
     let e = kept (c .v .given) ∙ ap (λ (j : ℕ). getD (s .args .plane .now) j (pos 0)) (c .before .index-of .ensures .0 ∙ h .index) in
     ((h .most, h .low, h .high), subst⁻¹ (λ (z : ℤ). natAbs z ≤ 2 * 4 ^ (l .k .level - 1) * 4095) e (h .bound))
 
 -- the rank is that of the present entry
 ranked : (c : tie.After-rank-of Inv-loop μ-loop) → let s = c .before .before .before .before .before .before .before in let l = c .before .before .before .before .before .loop in
-    c .rank-of .result ≡ getD (ranks (s .args .levels) (s .args .side) (s .args .side) (imageOf (s .args .side) (s .args .plane .now))) (l .inv .number) 0
+    c .rank-of .result ≡ getD (ranks (s .args .levels) (s .args .height) (s .args .width) (imageOf (s .args .height) (s .args .plane .now))) (l .inv .number) 0
 ranked c =
     let s = c .before .before .before .before .before .before .before in
     let l = c .before .before .before .before .before .loop in
-    let h = here-now (s .args .levels) (s .args .side) (s .args .plane .now) (s .pre .0) (l .k) (l .inv .number) (l .inv .place) (c .before .before .before .if1 .taken) in
+    let h = here-now (s .args .levels) (s .args .height) (s .args .width) (s .args .plane .now) (s .pre .0) (l .k) (l .inv .number) (l .inv .place) (c .before .before .before .if1 .taken) in
     let e = kept (c .before .v .given) ∙ ap (λ (j : ℕ). getD (s .args .plane .now) j (pos 0)) (c .before .before .index-of .ensures .0 ∙ h .index) in
     c .rank-of .ensures .0 ∙ ap (λ (z : ℤ). natAbs z * 2 ^ (s .args .levels - l .k .level)) e ∙ sym (h .rank)
 
 count-rank-requires : tie.Need-count-rank-requires Inv-loop μ-loop
-count-rank-requires c κs = let s = c .before .before .before .before .before .before .before .before in let l = c .before .before .before .before .before .before .loop in (run-small (s .args .levels) (s .args .side) (s .args .base) (2 ^ s .args .shift) (s .args .plane .now) (s .pre .0) (l .counts) (l .k) (l .inv), s .pre .1 .0)
+count-rank-requires c κs = let s = c .before .before .before .before .before .before .before .before in let l = c .before .before .before .before .before .before .loop in (run-small (s .args .levels) (s .args .height) (s .args .width) (s .args .base) (2 ^ s .args .shift) (s .args .plane .now) (s .pre .0) (l .counts) (l .k) (l .inv), s .pre .1 .0)
 
 step-requires : tie.Need-step-requires Inv-loop μ-loop
 step-requires c κs = (c .before .before .before .before .before .if1 .taken, c .before .before .before .before .before .before .before .loop .inv .place .inside)
@@ -64,10 +64,10 @@ loop-less : tie.Need-loop-less Inv-loop μ-loop
 loop-less c = let e = ap length (c .step .ensures .entries) in omega arith
 
 loop-again : tie.Need-loop-again Inv-loop μ-loop
-loop-again c = let s = c .before .before .before .before .before .before .before .before .before .before in let l = c .before .before .before .before .before .before .before .before .loop in run-step (s .args .levels) (s .args .side) (s .args .base) (2 ^ s .args .shift) (s .args .plane .now) (s .pre .0) (l .counts) (c .before .count-rank .last .0) (l .k) (c .step .result) (l .inv) (c .step .ensures) (c .before .before .before .rank-of .result) (ranked (c .before .before .before)) (c .before .count-rank .ensures)
+loop-again c = let s = c .before .before .before .before .before .before .before .before .before .before in let l = c .before .before .before .before .before .before .before .before .loop in run-step (s .args .levels) (s .args .height) (s .args .width) (s .args .base) (2 ^ s .args .shift) (s .args .plane .now) (s .pre .0) (l .counts) (c .before .count-rank .last .0) (l .k) (c .step .result) (l .inv) (c .step .ensures) (c .before .before .before .rank-of .result) (ranked (c .before .before .before)) (c .before .count-rank .ensures)
 
 returns : tie.Need-returns Inv-loop μ-loop
-returns c = let s = c .before .before .before .before in let l = c .before .before .loop in run-all (s .args .levels) (s .args .side) (s .args .base) (2 ^ s .args .shift) (s .args .plane .now) (s .pre .0) (l .counts) (l .k) (l .inv) (omega (arith, c .if1 .left))
+returns c = let s = c .before .before .before .before in let l = c .before .before .loop in run-all (s .args .levels) (s .args .height) (s .args .width) (s .args .base) (2 ^ s .args .shift) (s .args .plane .now) (s .pre .0) (l .counts) (l .k) (l .inv) (omega (arith, c .if1 .left))
 
 pub count-runs-spec : {M : Type 1} → statement M
 count-runs-spec =

@@ -8,7 +8,7 @@ use Rattle.sifting.proofs.ranks.limit_of.Statement.{statement}
 use Rattle.sifting.proofs.ranks.limit_of.Tie as tie
 
 narrowed-requires : tie.Need-narrowed-requires
-narrowed-requires c κs = (c .pre, ((omega arith, refl, omega arith), record { over = from-high (c .args .levels) (c .args .side) (c .args .plane .now) (c .pre); few = omega arith; least = inl refl }))
+narrowed-requires c κs = (c .pre, ((omega arith, refl, omega arith), record { over = from-high (c .args .levels) (c .args .height) (c .args .width) (c .args .plane .now) (c .pre); few = omega arith; least = inl refl }))
 
 narrowed-requires-2 : tie.Need-narrowed-requires-2
 narrowed-requires-2 c κs = (c .before .pre, ((omega arith, refl, omega (arith, c .narrowed .ensures .1)), c .narrowed .ensures .0))

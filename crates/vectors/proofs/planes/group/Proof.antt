@@ -6,10 +6,10 @@ use Rattle.vectors.proofs.planes.group.Statement.{statement}
 use Rattle.vectors.proofs.planes.group.Tie as tie
 
 abbrev Inv-loop : tie.InvT-loop
-Inv-loop words t₀ c₀ t c = c ≤ 5880
+Inv-loop words t₀ c₀ t c = c ≤ 16128
 
 abbrev μ-loop : tie.MeasureT-loop
-μ-loop words t₀ c₀ t c = 5880 - c
+μ-loop words t₀ c₀ t c = 16128 - c
 
 none-requires : tie.Need-none-requires Inv-loop μ-loop
 none-requires c κs = search needs
@@ -23,8 +23,8 @@ case-at-requires c κs = search needs
 one-plane-requires : tie.Need-one-plane-requires Inv-loop μ-loop
 one-plane-requires c κs = search needs
 
-counted-requires : tie.Need-counted-requires Inv-loop μ-loop
-counted-requires c κs = search needs
+counted-case-requires : tie.Need-counted-case-requires Inv-loop μ-loop
+counted-case-requires c κs = search needs
 
 add-c : tie.Need-add-c Inv-loop μ-loop
 add-c c = search needs
@@ -48,7 +48,7 @@ group-spec =
     loop-holds
     case-at-requires
     one-plane-requires
-    counted-requires
+    counted-case-requires
     add-c
     loop-less
     loop-again

@@ -6,10 +6,10 @@ use Rattle.vectors_text.proofs.sheets.read_group.Statement.{statement}
 use Rattle.vectors_text.proofs.sheets.read_group.Tie as tie
 
 abbrev Inv-loop : tie.InvT-loop
-Inv-loop t₀ x₀ c₀ t x c = c ≤ 3528
+Inv-loop t₀ x₀ c₀ t x c = c ≤ 9216
 
 abbrev μ-loop : tie.MeasureT-loop
-μ-loop t₀ x₀ c₀ t x c = 3528 - c
+μ-loop t₀ x₀ c₀ t x c = 9216 - c
 
 none-requires : tie.Need-none-requires Inv-loop μ-loop
 none-requires c κs = search needs
@@ -20,8 +20,8 @@ loop-holds c = search needs
 next-requires : tie.Need-next-requires Inv-loop μ-loop
 next-requires c κs = search needs
 
-case-at-requires : tie.Need-case-at-requires Inv-loop μ-loop
-case-at-requires c κs = search needs
+sparse-case-at-requires : tie.Need-sparse-case-at-requires Inv-loop μ-loop
+sparse-case-at-requires c κs = search needs
 
 smaller-requires : tie.Need-smaller-requires Inv-loop μ-loop
 smaller-requires c κs = search needs
@@ -29,8 +29,8 @@ smaller-requires c κs = search needs
 read-alike-requires : tie.Need-read-alike-requires Inv-loop μ-loop
 read-alike-requires c κs = search needs
 
-counted-requires : tie.Need-counted-requires Inv-loop μ-loop
-counted-requires c κs = search needs
+counted-case-requires : tie.Need-counted-case-requires Inv-loop μ-loop
+counted-case-requires c κs = search needs
 
 add-c : tie.Need-add-c Inv-loop μ-loop
 add-c c = search needs
@@ -53,10 +53,10 @@ read-group-spec =
     none-requires
     loop-holds
     next-requires
-    case-at-requires
+    sparse-case-at-requires
     smaller-requires
     read-alike-requires
-    counted-requires
+    counted-case-requires
     add-c
     loop-less
     loop-again

@@ -8,7 +8,7 @@ abbrev Inv-loop : tie.InvT-loop
 Inv-loop t₀ c₀ t c = Unit
 
 abbrev μ-loop : tie.MeasureT-loop
-μ-loop t₀ c₀ t c = 2352 - c
+μ-loop t₀ c₀ t c = 6144 - c
 
 none-requires : tie.Need-none-requires Inv-loop μ-loop
 none-requires c κs = tt
@@ -16,8 +16,8 @@ none-requires c κs = tt
 loop-holds : tie.Need-loop-holds Inv-loop μ-loop
 loop-holds c = search needs
 
-case-at-requires : tie.Need-case-at-requires Inv-loop μ-loop
-case-at-requires c κs = tt
+sparse-case-at-requires : tie.Need-sparse-case-at-requires Inv-loop μ-loop
+sparse-case-at-requires c κs = tt
 
 sheet-length-requires : tie.Need-sheet-length-requires Inv-loop μ-loop
 sheet-length-requires c κs = tt
@@ -28,8 +28,8 @@ room-of-requires c κs = tt
 written-alike-requires : tie.Need-written-alike-requires Inv-loop μ-loop
 written-alike-requires c κs = tt
 
-counted-requires : tie.Need-counted-requires Inv-loop μ-loop
-counted-requires c κs = tt
+counted-case-requires : tie.Need-counted-case-requires Inv-loop μ-loop
+counted-case-requires c κs = tt
 
 add-c : tie.Need-add-c Inv-loop μ-loop
 add-c c = search needs
@@ -51,11 +51,11 @@ write-group-spec =
     μ-loop
     none-requires
     loop-holds
-    case-at-requires
+    sparse-case-at-requires
     sheet-length-requires
     room-of-requires
     written-alike-requires
-    counted-requires
+    counted-case-requires
     add-c
     loop-less
     loop-again

@@ -1,30 +1,26 @@
--- `sheet_render::blocks_width` meets its contract: what is measured and what is left to measure are all. Assumes nothing.
-use mathlib.Core.Path.{_≡_, refl, sym, ap, _∙_}
-use mathlib.Core.Bool.{Bool, true, false}
-use mathlib.Core.List.{List, [], _∷_, _++_}
-use Prim.Native.Nat.{ℕ, suc, _+_, _*_, _-_, _<_, _≤_}
+-- `sheet_render::blocks_length` meets its contract: what is measured and what is left to measure are all. Assumes nothing.
+use mathlib.Core.Path.{_≡_, ap, _∙_}
+use Prim.Native.Nat.{_+_, _*_, _-_, _≤_}
 use native.Mathlib.Omega.{arith}
-use lib.IntN.{ℤ, pos, natAbs}
-use lib.ListN.{length, getD, drop, length-append}
+use lib.ListN.{length, getD, length-append}
 use Rattle.text.specs.Text.{rowsText}
 use Rattle.sheet_text.specs.Rows.{blockRows}
-use Rattle.text.specs.Write.{fourText, stamp}
-use Rattle.text.proofs.Stamp.{four-bound, Put, left-after, put-length, stamp-none}
-use Rattle.pyramid.specs.Places.{blockPlaces}
+use Rattle.text.specs.Write.{fourText}
+use Rattle.text.proofs.Stamp.{four-bound}
 use Rattle.sheet_text.specs.Sheet.{blocksText}
 use Rattle.places.specs.Walk.{Inside, blockAt, blocksLeft}
 use Rattle.sheet_text.proofs.Layouts.{blocks-count}
 use Rattle.places.proofs.Steps.{not-ended}
 use Rattle.sheet_render.proofs.Pieces.{blocksFrom, blocks-next, blocks-end}
 use borrow.Author.Needs.{needs}
-use Rattle.sheet_render.proofs.blocks_width.Statement.{statement}
-use Rattle.sheet_render.proofs.blocks_width.Tie as tie
+use Rattle.sheet_render.proofs.blocks_length.Statement.{statement}
+use Rattle.sheet_render.proofs.blocks_length.Tie as tie
 
 abbrev Inv-loop : tie.InvT-loop
-Inv-loop coverings side levels k₀ n₀ i₀ k n i = Inside side k × (i ≤ length coverings) × (length (blocksLeft k) + i ≡ length coverings) × (n ≤ 64 * i) × (n + length (blocksFrom k coverings i) ≡ length (blocksText levels side side coverings))
+Inv-loop coverings height width levels k₀ n₀ i₀ k n i = Inside height width k × (i ≤ length coverings) × (length (blocksLeft k) + i ≡ length coverings) × (n ≤ 64 * i) × (n + length (blocksFrom k coverings i) ≡ length (blocksText levels height width coverings))
 
 abbrev μ-loop : tie.MeasureT-loop
-μ-loop coverings side levels k₀ n₀ i₀ k n i = length coverings - i
+μ-loop coverings height width levels k₀ n₀ i₀ k n i = length coverings - i
 
 first-block-requires : tie.Need-first-block-requires Inv-loop μ-loop
 first-block-requires c κs = (c .before .pre .0 .0, c .before .pre .0 .1)
@@ -34,7 +30,7 @@ loop-holds c =
     let s = c .before .before in
     let cs = s .args .coverings .now in
     let e = c .first-block .ensures .1 in
-    let n = blocks-count 0 (s .args .levels) (s .args .side) (s .args .side) in
+    let n = blocks-count 0 (s .args .levels) (s .args .height) (s .args .width) in
     let l = s .pre .1 .0 in
     (c .first-block .ensures .0, omega arith, omega (arith, ap length e), omega arith, omega (arith, ap (λ bs. length (rowsText (blockRows bs cs))) e))
 
@@ -47,7 +43,7 @@ cast-four-width c = omega (arith, c .shared-slice-known2 .given (c .before .befo
 four-width-requires : tie.Need-four-width-requires Inv-loop μ-loop
 four-width-requires c κs =
     let i = c .before .before .loop .inv .0 in
-    (omega (arith, i .levels), omega (arith, i .row, i .tall, i .side), omega (arith, i .col, i .wide, i .side), omega (arith, c .shared-slice-known2 .given (c .before .before .loop .i)))
+    (omega (arith, i .levels), omega (arith, i .row, i .tall, i .down), omega (arith, i .col, i .wide, i .across), omega (arith, c .shared-slice-known2 .given (c .before .before .loop .i)))
 
 add-n : tie.Need-add-n Inv-loop μ-loop
 add-n c =
@@ -88,8 +84,8 @@ returns c =
     let z = ap length (blocks-end (l .k) (s .args .coverings .now) (l .i) (omega arith)) in
     (omega arith, omega (arith, s .pre .1 .1))
 
-pub blocks-width-spec : {M : Type 1} → statement M
-blocks-width-spec =
+pub blocks-length-spec : {M : Type 1} → statement M
+blocks-length-spec =
     tie.close
     (tie.spec
     Inv-loop

@@ -1,22 +1,22 @@
--- `plain::pyramid::copy_square` is safe and ends. Assumes nothing.
+-- `plain::pyramid::copy_image` is safe and ends. Assumes nothing.
 use mathlib.Core.Path.{_≡_}
 use Prim.Native.Nat.{_-_}
 use borrow.Author.Needs.{needs}
 use lib.ListN.{length}
-use Rattle.plain.proofs.pyramid.copy_square.Statement.{statement}
-use Rattle.plain.proofs.pyramid.copy_square.Tie as tie
+use Rattle.plain.proofs.pyramid.copy_image.Statement.{statement}
+use Rattle.plain.proofs.pyramid.copy_image.Tie as tie
 
 abbrev Inv-loop : tie.InvT-loop
-Inv-loop from to₀ side level n end i₀ to i = length to ≡ length to₀
+Inv-loop from to₀ extent level n end i₀ to i = length to ≡ length to₀
 
 abbrev μ-loop : tie.MeasureT-loop
-μ-loop from to₀ side level n end i₀ to i = end - i
+μ-loop from to₀ extent level n end i₀ to i = end - i
 
 minus-requires : tie.Need-minus-requires Inv-loop μ-loop
 minus-requires c κs = tt
 
-band-side-requires : tie.Need-band-side-requires Inv-loop μ-loop
-band-side-requires c κs = tt
+band-of-requires : tie.Need-band-of-requires Inv-loop μ-loop
+band-of-requires c κs = tt
 
 area-requires : tie.Need-area-requires Inv-loop μ-loop
 area-requires c κs = tt
@@ -57,14 +57,14 @@ same-length c = search needs
 returns : tie.Need-returns Inv-loop μ-loop
 returns c = search needs
 
-pub copy-square-spec : {M : Type 1} → statement M
-copy-square-spec =
+pub copy-image-spec : {M : Type 1} → statement M
+copy-image-spec =
     tie.close
     (tie.spec
     Inv-loop
     μ-loop
     minus-requires
-    band-side-requires
+    band-of-requires
     area-requires
     loop-holds
     over-requires
