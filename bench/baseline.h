@@ -16,19 +16,20 @@ enum { BASE_DIGITS, BASE_PRINTF };
 void base_init(void);
 
 uint32_t base_word(uint8_t covering, uint8_t *word, size_t word_len);
-uint32_t base_decompose(int form, size_t side, size_t levels, const uint16_t *samples, size_t samples_len, int64_t *plane, size_t plane_len,
-                        uint8_t *coverings, size_t coverings_len, int64_t *scratch, size_t scratch_len);
-uint32_t base_restore(size_t side, size_t levels, const int64_t *plane, size_t plane_len, const uint8_t *coverings, size_t coverings_len,
-                      int64_t *numerators, size_t numerators_len, uint16_t *samples, size_t samples_len, int64_t *scratch, size_t scratch_len);
-uint32_t base_keep(size_t side, size_t levels, int64_t *plane, size_t plane_len, uint64_t quota, size_t *left);
-uint32_t base_threshold(size_t side, size_t levels, int64_t *plane, size_t plane_len, uint64_t threshold, size_t *left);
-uint32_t base_write(int form, size_t side, size_t levels, const int64_t *plane, size_t plane_len, const uint8_t *coverings, size_t coverings_len,
-                    uint8_t *buffer, size_t buffer_len, size_t *length);
+uint32_t base_decompose(int form, size_t height, size_t width, size_t levels, const uint16_t *samples, size_t samples_len, int64_t *plane,
+                        size_t plane_len, uint8_t *coverings, size_t coverings_len, int64_t *scratch, size_t scratch_len);
+uint32_t base_restore(size_t height, size_t width, size_t levels, const int64_t *plane, size_t plane_len, const uint8_t *coverings,
+                      size_t coverings_len, int64_t *numerators, size_t numerators_len, uint16_t *samples, size_t samples_len,
+                      int64_t *scratch, size_t scratch_len);
+uint32_t base_keep(size_t height, size_t width, size_t levels, int64_t *plane, size_t plane_len, uint64_t quota, size_t *left);
+uint32_t base_threshold(size_t height, size_t width, size_t levels, int64_t *plane, size_t plane_len, uint64_t threshold, size_t *left);
+uint32_t base_write(int form, size_t height, size_t width, size_t levels, const int64_t *plane, size_t plane_len, const uint8_t *coverings,
+                    size_t coverings_len, uint8_t *buffer, size_t buffer_len, size_t *length);
 uint32_t base_read(const uint8_t *text, size_t text_len, int64_t *plane, size_t plane_len, uint8_t *coverings, size_t coverings_len,
-                   size_t *side, size_t *levels);
+                   size_t *height, size_t *width, size_t *levels);
 uint32_t base_usage(const uint8_t *coverings, size_t coverings_len, uint8_t *buffer, size_t buffer_len, size_t *length);
 
 /* Cuts as base_keep does, but ranked by |W| alone. For the figures in pictures/README.md. */
-uint32_t base_keep_raw(size_t side, size_t levels, int64_t *plane, size_t plane_len, uint64_t quota, size_t *left);
+uint32_t base_keep_raw(size_t height, size_t width, size_t levels, int64_t *plane, size_t plane_len, uint64_t quota, size_t *left);
 
 #endif

@@ -1,5 +1,5 @@
 /* Checks that the library and the plain C of baseline.c agree, then times both. Prints the best of several runs of each
-   entry, the ratio, how cost grows with the side, and the peak resident size. */
+   entry, the ratio, also for strips, how cost grows with the size, and the peak resident size. */
 #define _GNU_SOURCE
 #include "baseline.h"
 #include "tetrolet.h"
@@ -36,68 +36,69 @@ static uint8_t coverings[2][TETROLET_MAX_BLOCKS];
 static uint8_t buffer[2][TETROLET_MAX_SHEET];
 
 /* A random image: noise, noise over a slope, or a few flat values, so that ties occur. */
-static void make_image(size_t side, int kind)
+static void make_image(size_t height, size_t width, int kind)
 {
-    for (size_t x = 0; x < side; x++)
-        for (size_t y = 0; y < side; y++) {
-            size_t i = x * side + y;
+    for (size_t x = 0; x < width; x++)
+        for (size_t y = 0; y < height; y++) {
+            size_t i = x * height + y;
             if (kind == 0)
                 image[i] = (uint16_t)(next() % 4096);
             else if (kind == 1)
-                image[i] = (uint16_t)(1000 + x * 1500 / side + y * 1000 / side + next() % 96);
+                image[i] = (uint16_t)(1000 + x * 1500 / width + y * 1000 / height + next() % 96);
             else
                 image[i] = (uint16_t)(next() % 3 * 7);
         }
 }
 
-static void differ(const char *what, size_t side, size_t levels)
+static void differ(const char *what, size_t height, size_t width, size_t levels)
 {
-    printf("%s differ at side %zu with %zu levels\n", what, side, levels);
+    printf("%s differ at %zu by %zu with %zu levels\n", what, height, width, levels);
     exit(1);
 }
 
-static void check(int good, const char *what, size_t side, size_t levels)
+static void check(int good, const char *what, size_t height, size_t width, size_t levels)
 {
     if (!good)
-        differ(what, side, levels);
+        differ(what, height, width, levels);
 }
 
 /* Whether both give the same, through all entries. */
-static void agree(size_t side, size_t levels, int kind)
+static void agree(size_t height, size_t width, size_t levels, int kind)
 {
-    size_t area = side * side, blocks = tetrolet_blocks(side, levels), bytes = area * sizeof(int64_t);
-    size_t left[2], length[2], s[2], l[2];
+    size_t area = height * width, blocks = tetrolet_blocks(height, width, levels), bytes = area * sizeof(int64_t);
+    size_t left[2], length[2], h[2], w[2], l[2];
     uint64_t quota = next() % (area - (area >> 2 * levels) + 1), limit = next() % 64;
     uint32_t a, b;
-    make_image(side, kind);
+    make_image(height, width, kind);
     for (int form = 0; form < 2; form++) {
-        a = tetrolet_decompose(side, levels, image, area, plane[0], area, coverings[0], blocks, scratch[0], area);
-        b = base_decompose(form, side, levels, image, area, plane[1], area, coverings[1], blocks, scratch[1], area);
+        a = tetrolet_decompose(height, width, levels, image, area, plane[0], area, coverings[0], blocks, scratch[0], area);
+        b = base_decompose(form, height, width, levels, image, area, plane[1], area, coverings[1], blocks, scratch[1], area);
         check(a == 0 && b == 0 && !memcmp(plane[0], plane[1], bytes) && !memcmp(coverings[0], coverings[1], blocks)
-                  && !memcmp(scratch[0], scratch[1], bytes), "decompositions", side, levels);
+                  && !memcmp(scratch[0], scratch[1], bytes), "decompositions", height, width, levels);
     }
-    a = tetrolet_keep(side, levels, plane[0], area, quota, left);
-    b = base_keep(side, levels, plane[1], area, quota, left + 1);
-    check(a == 0 && b == 0 && left[0] == left[1] && !memcmp(plane[0], plane[1], bytes), "kept planes", side, levels);
-    a = tetrolet_threshold(side, levels, plane[0], area, limit, left);
-    b = base_threshold(side, levels, plane[1], area, limit, left + 1);
-    check(a == 0 && b == 0 && left[0] == left[1] && !memcmp(plane[0], plane[1], bytes), "cut planes", side, levels);
-    a = tetrolet_write(side, levels, plane[0], area, coverings[0], blocks, buffer[0], TETROLET_MAX_SHEET, length);
-    b = base_write(BASE_DIGITS, side, levels, plane[0], area, coverings[0], blocks, buffer[1], TETROLET_MAX_SHEET, length + 1);
-    check(a == 0 && b == 0 && length[0] == length[1] && !memcmp(buffer[0], buffer[1], length[0]), "sheets", side, levels);
-    b = base_write(BASE_PRINTF, side, levels, plane[0], area, coverings[0], blocks, buffer[1], TETROLET_MAX_SHEET, length + 1);
-    check(b == 0 && length[0] == length[1] && !memcmp(buffer[0], buffer[1], length[0]), "printed sheets", side, levels);
-    a = tetrolet_read(buffer[0], length[0], numerators[0], area, coverings[0], blocks, s, l);
-    b = base_read(buffer[0], length[0], numerators[1], area, coverings[1], blocks, s + 1, l + 1);
-    check(a == 0 && b == 0 && s[0] == side && l[0] == levels && s[1] == side && l[1] == levels && !memcmp(plane[0], numerators[0], bytes)
-              && !memcmp(plane[0], numerators[1], bytes) && !memcmp(coverings[0], coverings[1], blocks), "sheets read", side, levels);
+    a = tetrolet_keep(height, width, levels, plane[0], area, quota, left);
+    b = base_keep(height, width, levels, plane[1], area, quota, left + 1);
+    check(a == 0 && b == 0 && left[0] == left[1] && !memcmp(plane[0], plane[1], bytes), "kept planes", height, width, levels);
+    a = tetrolet_threshold(height, width, levels, plane[0], area, limit, left);
+    b = base_threshold(height, width, levels, plane[1], area, limit, left + 1);
+    check(a == 0 && b == 0 && left[0] == left[1] && !memcmp(plane[0], plane[1], bytes), "cut planes", height, width, levels);
+    a = tetrolet_write(height, width, levels, plane[0], area, coverings[0], blocks, buffer[0], TETROLET_MAX_SHEET, length);
+    b = base_write(BASE_DIGITS, height, width, levels, plane[0], area, coverings[0], blocks, buffer[1], TETROLET_MAX_SHEET, length + 1);
+    check(a == 0 && b == 0 && length[0] == length[1] && !memcmp(buffer[0], buffer[1], length[0]), "sheets", height, width, levels);
+    b = base_write(BASE_PRINTF, height, width, levels, plane[0], area, coverings[0], blocks, buffer[1], TETROLET_MAX_SHEET, length + 1);
+    check(b == 0 && length[0] == length[1] && !memcmp(buffer[0], buffer[1], length[0]), "printed sheets", height, width, levels);
+    a = tetrolet_read(buffer[0], length[0], numerators[0], area, coverings[0], blocks, h, w, l);
+    b = base_read(buffer[0], length[0], numerators[1], area, coverings[1], blocks, h + 1, w + 1, l + 1);
+    check(a == 0 && b == 0 && h[0] == height && w[0] == width && l[0] == levels && h[1] == height && w[1] == width && l[1] == levels
+              && !memcmp(plane[0], numerators[0], bytes) && !memcmp(plane[0], numerators[1], bytes) && !memcmp(coverings[0], coverings[1], blocks),
+          "sheets read", height, width, levels);
     a = tetrolet_usage(coverings[0], blocks, buffer[0], TETROLET_MAX_USAGE, length);
     b = base_usage(coverings[0], blocks, buffer[1], TETROLET_MAX_USAGE, length + 1);
-    check(a == 0 && b == 0 && length[0] == length[1] && !memcmp(buffer[0], buffer[1], length[0]), "usage lists", side, levels);
-    a = tetrolet_restore(side, levels, plane[0], area, coverings[0], blocks, numerators[0], area, samples[0], area, scratch[0], area);
-    b = base_restore(side, levels, plane[0], area, coverings[0], blocks, numerators[1], area, samples[1], area, scratch[1], area);
+    check(a == 0 && b == 0 && length[0] == length[1] && !memcmp(buffer[0], buffer[1], length[0]), "usage lists", height, width, levels);
+    a = tetrolet_restore(height, width, levels, plane[0], area, coverings[0], blocks, numerators[0], area, samples[0], area, scratch[0], area);
+    b = base_restore(height, width, levels, plane[0], area, coverings[0], blocks, numerators[1], area, samples[1], area, scratch[1], area);
     check(a == 0 && b == 0 && !memcmp(numerators[0], numerators[1], bytes) && !memcmp(samples[0], samples[1], area * sizeof(uint16_t))
-              && !memcmp(scratch[0], scratch[1], bytes), "restorations", side, levels);
+              && !memcmp(scratch[0], scratch[1], bytes), "restorations", height, width, levels);
 }
 
 /* Takes the time of one call, in milliseconds, where it is the best so far. */
@@ -117,32 +118,32 @@ struct times {
 };
 
 /* The best of several rounds. Each round has one call of each entry, so that a busy machine hits all alike. */
-static struct times measure(size_t side, size_t levels)
+static struct times measure(size_t height, size_t width, size_t levels)
 {
     struct times t = { 0 };
-    size_t area = side * side, blocks = tetrolet_blocks(side, levels), bytes = area * sizeof(int64_t), left, length, s, l;
-    make_image(side, 1);
+    size_t area = height * width, blocks = tetrolet_blocks(height, width, levels), bytes = area * sizeof(int64_t), left, length, rows, columns, l;
+    make_image(height, width, 1);
     for (int run = 0; run < RUNS; run++) {
         int64_t *p = plane[0], *q = plane[1], *n = numerators[0], *w = scratch[0];
         uint8_t *c = coverings[0], *d = coverings[1], *text = buffer[0];
-        TIME(t.straight, base_decompose(BASE_STRAIGHT, side, levels, image, area, p, area, c, blocks, w, area));
-        TIME(t.shared, base_decompose(BASE_SHARED, side, levels, image, area, p, area, c, blocks, w, area));
-        TIME(t.decompose, tetrolet_decompose(side, levels, image, area, p, area, c, blocks, w, area));
-        TIME(t.base_restore, base_restore(side, levels, p, area, c, blocks, n, area, samples[0], area, w, area));
-        TIME(t.restore, tetrolet_restore(side, levels, p, area, c, blocks, n, area, samples[0], area, w, area));
+        TIME(t.straight, base_decompose(BASE_STRAIGHT, height, width, levels, image, area, p, area, c, blocks, w, area));
+        TIME(t.shared, base_decompose(BASE_SHARED, height, width, levels, image, area, p, area, c, blocks, w, area));
+        TIME(t.decompose, tetrolet_decompose(height, width, levels, image, area, p, area, c, blocks, w, area));
+        TIME(t.base_restore, base_restore(height, width, levels, p, area, c, blocks, n, area, samples[0], area, w, area));
+        TIME(t.restore, tetrolet_restore(height, width, levels, p, area, c, blocks, n, area, samples[0], area, w, area));
         memcpy(q, p, bytes);
-        TIME(t.base_keep, base_keep(side, levels, q, area, area / 10, &left));
+        TIME(t.base_keep, base_keep(height, width, levels, q, area, area / 10, &left));
         memcpy(q, p, bytes);
-        TIME(t.keep, tetrolet_keep(side, levels, q, area, area / 10, &left));
-        TIME(t.kept_digits, base_write(BASE_DIGITS, side, levels, q, area, c, blocks, text, TETROLET_MAX_SHEET, &length));
-        TIME(t.kept_write, tetrolet_write(side, levels, q, area, c, blocks, text, TETROLET_MAX_SHEET, &length));
-        TIME(t.kept_base_read, base_read(text, length, n, area, d, blocks, &s, &l));
-        TIME(t.kept_read, tetrolet_read(text, length, n, area, d, blocks, &s, &l));
-        TIME(t.digits, base_write(BASE_DIGITS, side, levels, p, area, c, blocks, text, TETROLET_MAX_SHEET, &length));
-        TIME(t.printed, base_write(BASE_PRINTF, side, levels, p, area, c, blocks, text, TETROLET_MAX_SHEET, &length));
-        TIME(t.write, tetrolet_write(side, levels, p, area, c, blocks, text, TETROLET_MAX_SHEET, &length));
-        TIME(t.base_read, base_read(text, length, q, area, d, blocks, &s, &l));
-        TIME(t.read, tetrolet_read(text, length, q, area, d, blocks, &s, &l));
+        TIME(t.keep, tetrolet_keep(height, width, levels, q, area, area / 10, &left));
+        TIME(t.kept_digits, base_write(BASE_DIGITS, height, width, levels, q, area, c, blocks, text, TETROLET_MAX_SHEET, &length));
+        TIME(t.kept_write, tetrolet_write(height, width, levels, q, area, c, blocks, text, TETROLET_MAX_SHEET, &length));
+        TIME(t.kept_base_read, base_read(text, length, n, area, d, blocks, &rows, &columns, &l));
+        TIME(t.kept_read, tetrolet_read(text, length, n, area, d, blocks, &rows, &columns, &l));
+        TIME(t.digits, base_write(BASE_DIGITS, height, width, levels, p, area, c, blocks, text, TETROLET_MAX_SHEET, &length));
+        TIME(t.printed, base_write(BASE_PRINTF, height, width, levels, p, area, c, blocks, text, TETROLET_MAX_SHEET, &length));
+        TIME(t.write, tetrolet_write(height, width, levels, p, area, c, blocks, text, TETROLET_MAX_SHEET, &length));
+        TIME(t.base_read, base_read(text, length, q, area, d, blocks, &rows, &columns, &l));
+        TIME(t.read, tetrolet_read(text, length, q, area, d, blocks, &rows, &columns, &l));
         TIME(t.base_usage, base_usage(c, blocks, text, TETROLET_MAX_USAGE, &length));
         TIME(t.usage, tetrolet_usage(c, blocks, text, TETROLET_MAX_USAGE, &length));
     }
@@ -157,7 +158,31 @@ static void line(const char *name, double ours, const char *form, double theirs,
         printf("%-10s %9.3f   %-9s %9.3f   %5.2f   at most %.1f: %s\n", name, ours, form, theirs, ours / theirs, bar, ours / theirs <= bar ? "met" : "not met");
 }
 
-/* Peak resident size of a process of its own that decomposes and restores an image of side 512 with 8 levels, in KiB. */
+static void head(size_t height, size_t width, size_t levels)
+{
+    printf("height %zu, width %zu, %zu levels, best of %d rounds, milliseconds\n", height, width, levels, RUNS);
+    printf("%-10s %9s   %-9s %9s   %5s\n", "entry", "library", "C form", "C", "ratio");
+}
+
+static double faster(struct times t)
+{
+    return t.straight < t.shared ? t.straight : t.shared;
+}
+
+/* The rows of a strip. The bars are those of 512 by 512, so it has none. */
+static void strip(size_t height, size_t width, size_t levels)
+{
+    struct times t = measure(height, width, levels);
+    printf("\n");
+    head(height, width, levels);
+    line("decompose", t.decompose, "faster", faster(t), 0);
+    line("restore", t.restore, "plain", t.base_restore, 0);
+    line("keep", t.keep, "buckets", t.base_keep, 0);
+    line("write", t.write, "digits", t.digits, 0);
+    line("read", t.read, "plain", t.base_read, 0);
+}
+
+/* Peak resident size of a process of its own that decomposes and restores an image of 512 by 512 with 8 levels, in KiB. */
 static long peak(int library)
 {
     int ends[2];
@@ -184,15 +209,15 @@ static long peak(int library)
 
 static int peak_run(int library)
 {
-    size_t side = 512, levels = 8, area = side * side, blocks = tetrolet_blocks(side, levels);
+    size_t height = 512, width = 512, levels = 8, area = height * width, blocks = tetrolet_blocks(height, width, levels);
     uint32_t n;
-    make_image(side, 1);
+    make_image(height, width, 1);
     if (library) {
-        n = tetrolet_decompose(side, levels, image, area, plane[0], area, coverings[0], blocks, scratch[0], area);
-        n |= tetrolet_restore(side, levels, plane[0], area, coverings[0], blocks, numerators[0], area, samples[0], area, scratch[0], area);
+        n = tetrolet_decompose(height, width, levels, image, area, plane[0], area, coverings[0], blocks, scratch[0], area);
+        n |= tetrolet_restore(height, width, levels, plane[0], area, coverings[0], blocks, numerators[0], area, samples[0], area, scratch[0], area);
     } else {
-        n = base_decompose(BASE_SHARED, side, levels, image, area, plane[0], area, coverings[0], blocks, scratch[0], area);
-        n |= base_restore(side, levels, plane[0], area, coverings[0], blocks, numerators[0], area, samples[0], area, scratch[0], area);
+        n = base_decompose(BASE_SHARED, height, width, levels, image, area, plane[0], area, coverings[0], blocks, scratch[0], area);
+        n |= base_restore(height, width, levels, plane[0], area, coverings[0], blocks, numerators[0], area, samples[0], area, scratch[0], area);
     }
     if (n != 0)
         return 1;
@@ -211,20 +236,21 @@ int main(int argc, char **argv)
         return peak_run(1);
     if (argc == 2 && !strcmp(argv[1], "peak-baseline"))
         return peak_run(0);
-    size_t images = 0;
-    for (size_t side = 4, most = 1; side <= 512; side *= 2, most++)
-        for (size_t levels = 1; levels <= most; levels++)
-            for (int kind = 0; kind < 3; kind++, images++)
-                agree(side, levels, kind);
-    printf("both agree on %zu images\n\n", images);
+    size_t images = 0, strips = 0;
+    for (size_t height = 4; height <= 512; height *= 2)
+        for (size_t width = 4; width <= 512; width *= 2)
+            for (size_t levels = 1; height >> levels >= 2 && width >> levels >= 2; levels++)
+                for (int kind = 0; kind < 3; kind++, images++) {
+                    agree(height, width, levels, kind);
+                    strips += height != width;
+                }
+    printf("both agree on %zu images, %zu of them strips\n\n", images, strips);
 
-    struct times t = measure(512, 8);
-    double fast = t.straight < t.shared ? t.straight : t.shared;
-    printf("side 512, 8 levels, best of %d rounds, milliseconds\n", RUNS);
-    printf("%-10s %9s   %-9s %9s   %5s\n", "entry", "library", "C form", "C", "ratio");
+    struct times t = measure(512, 512, 8);
+    head(512, 512, 8);
     line("decompose", t.decompose, "straight", t.straight, 0);
     line("decompose", t.decompose, "shared", t.shared, 0);
-    line("decompose", t.decompose, "faster", fast, 1.3);
+    line("decompose", t.decompose, "faster", faster(t), 1.3);
     line("restore", t.restore, "plain", t.base_restore, 1.3);
     line("keep", t.keep, "buckets", t.base_keep, 1.5);
     line("write", t.write, "digits", t.digits, 1.5);
@@ -234,19 +260,22 @@ int main(int argc, char **argv)
     line("read kept", t.kept_read, "plain", t.kept_base_read, 0);
     line("usage", t.usage, "one pass", t.base_usage, 0);
 
-    printf("\ngrowth with the side, all levels, library, milliseconds (nanoseconds for each sample)\n");
-    printf("%5s  %17s  %17s  %17s  %17s  %17s\n", "side", "decompose", "restore", "keep", "write", "read");
-    for (size_t side = 64, levels = 5; side <= 512; side *= 2, levels++) {
-        struct times g = side == 512 ? t : measure(side, levels);
+    strip(512, 64, 5);
+    strip(64, 512, 5);
+
+    printf("\ngrowth with height and width, both the same, all levels, library, milliseconds (nanoseconds for each sample)\n");
+    printf("%6s  %17s  %17s  %17s  %17s  %17s\n", "height", "decompose", "restore", "keep", "write", "read");
+    for (size_t height = 64, levels = 5; height <= 512; height *= 2, levels++) {
+        struct times g = height == 512 ? t : measure(height, height, levels);
         double ours[5] = { g.decompose, g.restore, g.keep, g.write, g.read };
-        printf("%5zu", side);
+        printf("%6zu", height);
         for (int k = 0; k < 5; k++)
-            printf("  %8.3f (%6.1f)", ours[k], ours[k] * 1e6 / (double)(side * side));
+            printf("  %8.3f (%6.1f)", ours[k], ours[k] * 1e6 / (double)(height * height));
         printf("\n");
     }
 
     size_t area = TETROLET_MAX_AREA;
-    printf("\npeak resident size, one decompose and one restore of side 512 with 8 levels, KiB: library %ld, C %ld\n", peak(1), peak(0));
+    printf("\npeak resident size, one decompose and one restore of 512 by 512 with 8 levels, KiB: library %ld, C %ld\n", peak(1), peak(0));
     printf("of these the slices lent: %zu\n", (area * (2 * 2 + 3 * 8) + TETROLET_MAX_BLOCKS) / 1024);
     return 0;
 }

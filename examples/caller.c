@@ -1,11 +1,11 @@
-/* A caller in C: decomposes a small image, keeps the best coefficients, writes the sheet, reads it back and restores the image. */
+/* A caller in C: decomposes a small strip, keeps the best coefficients, writes the sheet, reads it back and restores it. */
 #include "tetrolet.h"
 
 #include <inttypes.h>
 #include <stdio.h>
 #include <stdlib.h>
 
-enum { SIDE = 16, LEVELS = 3, AREA = SIDE * SIDE, BLOCKS = 16 + 4 + 1, QUOTA = 60 };
+enum { HEIGHT = 8, WIDTH = 32, LEVELS = 2, AREA = HEIGHT * WIDTH, BLOCKS = 2 * 8 + 4, QUOTA = 60 };
 
 static void accepted(const char *what, uint32_t refusal)
 {
@@ -22,31 +22,33 @@ int main(void)
     static uint8_t coverings[BLOCKS];
 
     /* A slope with a bright diagonal bar, stored down columns. */
-    for (int x = 0; x < SIDE; x++)
-        for (int y = 0; y < SIDE; y++)
-            image[x * SIDE + y] = (uint16_t)(100 * x + 20 * y + (abs(x - y) < 2 ? 1500 : 0));
+    for (int x = 0; x < WIDTH; x++)
+        for (int y = 0; y < HEIGHT; y++)
+            image[x * HEIGHT + y] = (uint16_t)(50 * x + 20 * y + (abs(x - 4 * y) < 4 ? 1500 : 0));
 
-    accepted("decompose", tetrolet_decompose(SIDE, LEVELS, image, AREA, plane, AREA, coverings, BLOCKS, scratch, AREA));
+    accepted("decompose", tetrolet_decompose(HEIGHT, WIDTH, LEVELS, image, AREA, plane, AREA, coverings, BLOCKS, scratch, AREA));
     int used[118] = { 0 }, kinds = 0, entries = 0;
     for (int k = 0; k < BLOCKS; k++)
         kinds += used[coverings[k]]++ == 0;
     for (int k = 0; k < AREA; k++)
         entries += plane[k] != 0;
-    printf("decomposed side %d with %d levels: %d blocks, %d different coverings, %d plane entries not zero\n", SIDE, LEVELS, BLOCKS, kinds, entries);
+    printf("decomposed height %d, width %d with %d levels: %d blocks, %d different coverings, %d plane entries not zero\n", HEIGHT, WIDTH, LEVELS,
+           BLOCKS, kinds, entries);
 
-    size_t left = 0, length = 0, side = 0, levels = 0;
-    accepted("keep", tetrolet_keep(SIDE, LEVELS, plane, AREA, QUOTA, &left));
+    size_t left = 0, length = 0, height = 0, width = 0, levels = 0;
+    accepted("keep", tetrolet_keep(HEIGHT, WIDTH, LEVELS, plane, AREA, QUOTA, &left));
     printf("kept %zu tetrolet coefficients\n", left);
 
     static uint8_t sheet[AREA * 32];
-    accepted("write", tetrolet_write(SIDE, LEVELS, plane, AREA, coverings, BLOCKS, sheet, sizeof sheet, &length));
+    accepted("write", tetrolet_write(HEIGHT, WIDTH, LEVELS, plane, AREA, coverings, BLOCKS, sheet, sizeof sheet, &length));
     printf("wrote a sheet of %zu bytes\n", length);
 
     static int64_t plane_read[AREA];
     static uint8_t coverings_read[BLOCKS];
-    accepted("read", tetrolet_read(sheet, length, plane_read, AREA, coverings_read, BLOCKS, &side, &levels));
-    printf("read it back: side %zu, levels %zu\n", side, levels);
-    accepted("restore", tetrolet_restore(side, levels, plane_read, AREA, coverings_read, BLOCKS, numerators, AREA, samples, AREA, scratch, AREA));
+    accepted("read", tetrolet_read(sheet, length, plane_read, AREA, coverings_read, BLOCKS, &height, &width, &levels));
+    printf("read it back: height %zu, width %zu, levels %zu\n", height, width, levels);
+    accepted("restore", tetrolet_restore(height, width, levels, plane_read, AREA, coverings_read, BLOCKS, numerators, AREA, samples, AREA, scratch,
+                                         AREA));
 
     long distance = 0;
     for (int k = 0; k < AREA; k++)

@@ -1,10 +1,11 @@
-// A caller in Rust: decomposes a small image, keeps the best coefficients, writes the sheet, reads it back and restores the image.
+// A caller in Rust: decomposes a small strip, keeps the best coefficients, writes the sheet, reads it back and restores it.
 // The functions below wrap the C entries in slices, so that lengths and pointers cannot be mistaken.
 
 mod ffi {
     extern "C" {
         pub fn tetrolet_decompose(
-            side: usize,
+            height: usize,
+            width: usize,
             levels: usize,
             samples: *const u16,
             samples_len: usize,
@@ -16,7 +17,8 @@ mod ffi {
             scratch_len: usize,
         ) -> u32;
         pub fn tetrolet_restore(
-            side: usize,
+            height: usize,
+            width: usize,
             levels: usize,
             plane: *const i64,
             plane_len: usize,
@@ -30,7 +32,8 @@ mod ffi {
             scratch_len: usize,
         ) -> u32;
         pub fn tetrolet_keep(
-            side: usize,
+            height: usize,
+            width: usize,
             levels: usize,
             plane: *mut i64,
             plane_len: usize,
@@ -38,7 +41,8 @@ mod ffi {
             left: *mut usize,
         ) -> u32;
         pub fn tetrolet_write(
-            side: usize,
+            height: usize,
+            width: usize,
             levels: usize,
             plane: *const i64,
             plane_len: usize,
@@ -55,7 +59,8 @@ mod ffi {
             plane_len: usize,
             coverings: *mut u8,
             coverings_len: usize,
-            side: *mut usize,
+            height: *mut usize,
+            width: *mut usize,
             levels: *mut usize,
         ) -> u32;
     }
@@ -72,7 +77,8 @@ fn answer<T>(refusal: u32, value: T) -> Answer<T> {
 }
 
 fn decompose(
-    side: usize,
+    height: usize,
+    width: usize,
     levels: usize,
     samples: &[u16],
     plane: &mut [i64],
@@ -81,7 +87,8 @@ fn decompose(
 ) -> Answer<()> {
     let n = unsafe {
         ffi::tetrolet_decompose(
-            side,
+            height,
+            width,
             levels,
             samples.as_ptr(),
             samples.len(),
@@ -97,7 +104,8 @@ fn decompose(
 }
 
 fn restore(
-    side: usize,
+    height: usize,
+    width: usize,
     levels: usize,
     plane: &[i64],
     coverings: &[u8],
@@ -107,7 +115,8 @@ fn restore(
 ) -> Answer<()> {
     let n = unsafe {
         ffi::tetrolet_restore(
-            side,
+            height,
+            width,
             levels,
             plane.as_ptr(),
             plane.len(),
@@ -124,11 +133,18 @@ fn restore(
     answer(n, ())
 }
 
-fn keep(side: usize, levels: usize, plane: &mut [i64], quota: u64) -> Answer<usize> {
+fn keep(
+    height: usize,
+    width: usize,
+    levels: usize,
+    plane: &mut [i64],
+    quota: u64,
+) -> Answer<usize> {
     let mut left = 0;
     let n = unsafe {
         ffi::tetrolet_keep(
-            side,
+            height,
+            width,
             levels,
             plane.as_mut_ptr(),
             plane.len(),
@@ -140,7 +156,8 @@ fn keep(side: usize, levels: usize, plane: &mut [i64], quota: u64) -> Answer<usi
 }
 
 fn write(
-    side: usize,
+    height: usize,
+    width: usize,
     levels: usize,
     plane: &[i64],
     coverings: &[u8],
@@ -149,7 +166,8 @@ fn write(
     let mut length = 0;
     let n = unsafe {
         ffi::tetrolet_write(
-            side,
+            height,
+            width,
             levels,
             plane.as_ptr(),
             plane.len(),
@@ -163,8 +181,8 @@ fn write(
     answer(n, length)
 }
 
-fn read(text: &[u8], plane: &mut [i64], coverings: &mut [u8]) -> Answer<(usize, usize)> {
-    let (mut side, mut levels) = (0, 0);
+fn read(text: &[u8], plane: &mut [i64], coverings: &mut [u8]) -> Answer<(usize, usize, usize)> {
+    let (mut height, mut width, mut levels) = (0, 0, 0);
     let n = unsafe {
         ffi::tetrolet_read(
             text.as_ptr(),
@@ -173,31 +191,34 @@ fn read(text: &[u8], plane: &mut [i64], coverings: &mut [u8]) -> Answer<(usize, 
             plane.len(),
             coverings.as_mut_ptr(),
             coverings.len(),
-            &mut side,
+            &mut height,
+            &mut width,
             &mut levels,
         )
     };
-    answer(n, (side, levels))
+    answer(n, (height, width, levels))
 }
 
 fn run() -> Answer<()> {
-    const SIDE: usize = 16;
-    const LEVELS: usize = 3;
-    const AREA: usize = SIDE * SIDE;
-    const BLOCKS: usize = 16 + 4 + 1;
+    const HEIGHT: usize = 8;
+    const WIDTH: usize = 32;
+    const LEVELS: usize = 2;
+    const AREA: usize = HEIGHT * WIDTH;
+    const BLOCKS: usize = 2 * 8 + 4;
 
     // A slope with a bright diagonal bar, stored down columns.
     let mut image = vec![0u16; AREA];
-    for x in 0..SIDE {
-        for y in 0..SIDE {
-            image[x * SIDE + y] =
-                (100 * x + 20 * y + if x.abs_diff(y) < 2 { 1500 } else { 0 }) as u16;
+    for x in 0..WIDTH {
+        for y in 0..HEIGHT {
+            image[x * HEIGHT + y] =
+                (50 * x + 20 * y + if x.abs_diff(4 * y) < 4 { 1500 } else { 0 }) as u16;
         }
     }
 
     let (mut plane, mut coverings, mut scratch) = (vec![0; AREA], vec![0; BLOCKS], vec![0; AREA]);
     decompose(
-        SIDE,
+        HEIGHT,
+        WIDTH,
         LEVELS,
         &image,
         &mut plane,
@@ -209,23 +230,24 @@ fn run() -> Answer<()> {
         .collect::<std::collections::BTreeSet<_>>()
         .len();
     let entries = plane.iter().filter(|v| **v != 0).count();
-    println!("decomposed side {SIDE} with {LEVELS} levels: {BLOCKS} blocks, {kinds} different coverings, {entries} plane entries not zero");
+    println!("decomposed height {HEIGHT}, width {WIDTH} with {LEVELS} levels: {BLOCKS} blocks, {kinds} different coverings, {entries} plane entries not zero");
 
-    let (side, levels, plane, coverings) = {
-        let left = keep(SIDE, LEVELS, &mut plane, 60)?;
+    let (height, width, levels, plane, coverings) = {
+        let left = keep(HEIGHT, WIDTH, LEVELS, &mut plane, 60)?;
         println!("kept {left} tetrolet coefficients");
         let mut sheet = vec![0; 32 * AREA];
-        let length = write(SIDE, LEVELS, &plane, &coverings, &mut sheet)?;
+        let length = write(HEIGHT, WIDTH, LEVELS, &plane, &coverings, &mut sheet)?;
         println!("wrote a sheet of {length} bytes");
         let (mut plane, mut coverings) = (vec![0; AREA], vec![0; BLOCKS]);
-        let (side, levels) = read(&sheet[..length], &mut plane, &mut coverings)?;
-        println!("read it back: side {side}, levels {levels}");
-        (side, levels, plane, coverings)
+        let (height, width, levels) = read(&sheet[..length], &mut plane, &mut coverings)?;
+        println!("read it back: height {height}, width {width}, levels {levels}");
+        (height, width, levels, plane, coverings)
     };
 
     let (mut numerators, mut samples) = (vec![0; AREA], vec![0; AREA]);
     restore(
-        side,
+        height,
+        width,
         levels,
         &plane,
         &coverings,

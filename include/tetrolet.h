@@ -9,12 +9,13 @@
  * The slices lent to one call must not overlap. A pointer must not be null, even where its count is 0, and must be aligned
  * for its type.
  *
- * Sides N: 4, 8, 16, 32, 64, 128, 256, 512. Levels R: 1 to log2(N) - 1. Images and planes are stored down columns: row y,
- * column x is at x * N + y. Level r works on the low-pass square of side N / 2^(r-1) and leaves in it the low-pass upper
- * left, W1 upper right, W2 lower left, W3 lower right: bands 0 to 3.
+ * Height and width, each on its own: 4, 8, 16, 32, 64, 128, 256, 512. Levels R: 1 to log2 of the smaller of the two, minus 1.
+ * Images and planes are stored down columns: row y, column x is at x * height + y. Level r works on the upper left
+ * height / 2^(r-1) rows and width / 2^(r-1) columns and leaves in them the low-pass upper left, W1 upper right, W2 lower left,
+ * W3 lower right: bands 0 to 3.
  *
  * The coverings of the blocks are listed by level, from level 1, and in a level down columns. There are B of them: the sum
- * over r from 1 to R of (N / 2^(r+1))^2. tetrolet_blocks below reckons it.
+ * over r from 1 to R of (height / 2^(r+1)) * (width / 2^(r+1)). tetrolet_blocks below reckons it.
  */
 #ifndef TETROLET_H
 #define TETROLET_H
@@ -29,32 +30,32 @@ extern "C" {
 /* The refusals. */
 enum {
     TETROLET_ACCEPTED = 0,
-    TETROLET_SIDE = 1,        /* the side is not a power of two, 4 to 512 */
-    TETROLET_LEVELS = 2,      /* levels out of range for the side */
+    TETROLET_SIDE = 1,        /* the height or the width is not a power of two, 4 to 512 */
+    TETROLET_LEVELS = 2,      /* levels out of range for the smaller of height and width */
     TETROLET_LENGTH = 3,      /* a slice is not of its exact length */
     TETROLET_SAMPLE = 4,      /* a sample is over 4,095 */
     TETROLET_COVERING = 5,    /* a covering is 0 or over 117 */
     TETROLET_COEFFICIENT = 6, /* a plane entry is out of its range */
-    TETROLET_QUOTA = 7,       /* the quota is over N^2 - N^2 / 4^R */
+    TETROLET_QUOTA = 7,       /* the quota is over A - A / 4^R, where A is height * width */
     TETROLET_THRESHOLD = 8,   /* the threshold is over 1,000,000 */
     TETROLET_TEXT = 9,        /* the text breaks the line rules */
     TETROLET_BUFFER = 10,     /* the text is longer than the buffer */
     TETROLET_SEQUENCE = 11,   /* block lines or plane lines that are not at their places */
-    TETROLET_BENCH = 12       /* cutter: the side is over 32 */
+    TETROLET_BENCH = 12       /* cutter: the height or the width is over 32 */
 };
 
 /* The largest counts: samples of an image, coverings of an image, bytes of a sheet, bytes of a usage list. */
 #define TETROLET_MAX_AREA 262144
 #define TETROLET_MAX_BLOCKS 21845
-#define TETROLET_MAX_SHEET 4772573
+#define TETROLET_MAX_SHEET 4772585
 #define TETROLET_MAX_USAGE 851
 
-/* B, the number of coverings for an accepted side and levels. */
-static inline size_t tetrolet_blocks(size_t side, size_t levels)
+/* B, the number of coverings for accepted height, width and levels. */
+static inline size_t tetrolet_blocks(size_t height, size_t width, size_t levels)
 {
     size_t total = 0;
-    for (; levels > 0; levels--, side /= 2)
-        total += (side / 4) * (side / 4);
+    for (; levels > 0; levels--, height /= 2, width /= 2)
+        total += (height / 4) * (width / 4);
     return total;
 }
 
@@ -67,67 +68,67 @@ uint32_t tetrolet_word(uint8_t covering, uint8_t *word, size_t word_len);
 
 /*
  * Decomposes an image into its plane and its coverings.
- *   samples    N^2 samples, 0 to 4,095, read
- *   plane      N^2 entries, written
+ *   samples    height * width samples, 0 to 4,095, read
+ *   plane      height * width entries, written
  *   coverings  B numbers, 1 to 117, written
- *   scratch    N^2 entries; they may hold anything, and hold zeros after an accepted call
+ *   scratch    height * width entries; they may hold anything, and hold zeros after an accepted call
  * Refusals: 1, 2, 3, 4.
  */
-uint32_t tetrolet_decompose(size_t side, size_t levels, const uint16_t *samples, size_t samples_len, int64_t *plane, size_t plane_len,
-                            uint8_t *coverings, size_t coverings_len, int64_t *scratch, size_t scratch_len);
+uint32_t tetrolet_decompose(size_t height, size_t width, size_t levels, const uint16_t *samples, size_t samples_len, int64_t *plane,
+                            size_t plane_len, uint8_t *coverings, size_t coverings_len, int64_t *scratch, size_t scratch_len);
 
 /*
  * Restores an image from a plane and its coverings.
- *   plane      N^2 entries, read: low-pass 0 to 4,095 * 4^R; W of level r within 2 * 4^(r-1) * 4,095 either side of zero
+ *   plane      height * width entries, read: low-pass 0 to 4,095 * 4^R; W of level r within 2 * 4^(r-1) * 4,095 either side of zero
  *   coverings  B numbers, 1 to 117, read
- *   numerators N^2 entries, written: 4^R times the image where nothing was cut
- *   samples    N^2 samples, written: numerators / 4^R rounded to nearest, halves upward, held to 0 and 4,095
- *   scratch    N^2 entries; they may hold anything, and hold zeros after an accepted call
+ *   numerators height * width entries, written: 4^R times the image where nothing was cut
+ *   samples    height * width samples, written: numerators / 4^R rounded to nearest, halves upward, held to 0 and 4,095
+ *   scratch    height * width entries; they may hold anything, and hold zeros after an accepted call
  * Refusals: 1, 2, 3, 5, 6.
  */
-uint32_t tetrolet_restore(size_t side, size_t levels, const int64_t *plane, size_t plane_len, const uint8_t *coverings, size_t coverings_len,
-                          int64_t *numerators, size_t numerators_len, uint16_t *samples, size_t samples_len, int64_t *scratch, size_t scratch_len);
+uint32_t tetrolet_restore(size_t height, size_t width, size_t levels, const int64_t *plane, size_t plane_len, const uint8_t *coverings,
+                          size_t coverings_len, int64_t *numerators, size_t numerators_len, uint16_t *samples, size_t samples_len,
+                          int64_t *scratch, size_t scratch_len);
 
 /*
  * Keeps the first `quota` tetrolet coefficients by falling rank |W| * 2^(R-r), then in plane order; the others become 0.
  * The low-pass is never cut.
- *   plane      N^2 entries in range, as for tetrolet_restore, read and written
+ *   plane      height * width entries in range, as for tetrolet_restore, read and written
  *   left       the number of tetrolet coefficients left that are not zero, written
  * Refusals: 1, 2, 3, 6, 7.
  */
-uint32_t tetrolet_keep(size_t side, size_t levels, int64_t *plane, size_t plane_len, uint64_t quota, size_t *left);
+uint32_t tetrolet_keep(size_t height, size_t width, size_t levels, int64_t *plane, size_t plane_len, uint64_t quota, size_t *left);
 
 /*
  * Cuts by a threshold: a level-r tetrolet coefficient stays where |W| is at least threshold * 2^r; the others become 0.
  * The low-pass is never cut.
- *   plane      N^2 entries in range, as for tetrolet_restore, read and written
+ *   plane      height * width entries in range, as for tetrolet_restore, read and written
  *   left       the number of tetrolet coefficients left that are not zero, written
  * Refusals: 1, 2, 3, 6, 8.
  */
-uint32_t tetrolet_threshold(size_t side, size_t levels, int64_t *plane, size_t plane_len, uint64_t threshold, size_t *left);
+uint32_t tetrolet_threshold(size_t height, size_t width, size_t levels, int64_t *plane, size_t plane_len, uint64_t threshold, size_t *left);
 
 /*
  * Writes a plane and its coverings as a sheet.
- *   plane      N^2 entries in range, as for tetrolet_restore, read
+ *   plane      height * width entries in range, as for tetrolet_restore, read
  *   coverings  B numbers, 1 to 117, read
  *   buffer     any length; the sheet is written from its start, further bytes stay
  *   length     the number of bytes written
  * Refusals: 1, 2, 3, 5, 6, 10. TETROLET_MAX_SHEET bytes are always enough.
  */
-uint32_t tetrolet_write(size_t side, size_t levels, const int64_t *plane, size_t plane_len, const uint8_t *coverings, size_t coverings_len,
-                        uint8_t *buffer, size_t buffer_len, size_t *length);
+uint32_t tetrolet_write(size_t height, size_t width, size_t levels, const int64_t *plane, size_t plane_len, const uint8_t *coverings,
+                        size_t coverings_len, uint8_t *buffer, size_t buffer_len, size_t *length);
 
 /*
- * Reads a sheet. The slices are those of the sheet's own side N and levels R, which stand in its second line.
+ * Reads a sheet. The slices are those of the sheet's own height, width and levels, which stand in its second line.
  *   text       the sheet, any length, read as a whole
- *   plane      N^2 entries, written: 0 at each place without a line
+ *   plane      height * width entries, written: 0 at each place without a line
  *   coverings  B numbers, written
- *   side       N, written
- *   levels     R, written
+ *   height, width, levels    those of the sheet, written
  * Refusals: 9, 1, 2, 3, 11, 5, 6.
  */
 uint32_t tetrolet_read(const uint8_t *text, size_t text_len, int64_t *plane, size_t plane_len, uint8_t *coverings, size_t coverings_len,
-                       size_t *side, size_t *levels);
+                       size_t *height, size_t *width, size_t *levels);
 
 /*
  * Writes the usage list: one line for each covering used, with its count; by falling count, then rising number.

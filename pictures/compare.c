@@ -39,13 +39,13 @@ static int by_size(const void *a, const void *b)
 
 /* Keeps the first `share` tetrolet coefficients of level r by falling |W|, then plane order; its others become 0. Gives how many are
    left that are not zero. */
-static uint64_t keep_level(size_t side, size_t r, int64_t *p, uint64_t share)
+static uint64_t keep_level(size_t height, size_t width, size_t r, int64_t *p, uint64_t share)
 {
-    size_t h = side >> r, n = 0;
+    size_t h = height >> r, w = width >> r, n = 0;
     for (size_t band = 1; band <= 3; band++)
-        for (size_t col = 0; col < h; col++)
+        for (size_t col = 0; col < w; col++)
             for (size_t row = 0; row < h; row++) {
-                int64_t *at = p + (col + (band & 1 ? h : 0)) * side + row + (band & 2 ? h : 0);
+                int64_t *at = p + (col + (band & 1 ? w : 0)) * height + row + (band & 2 ? h : 0);
                 list[n] = (struct coefficient) { (uint64_t)(*at < 0 ? -*at : *at), n, at };
                 n++;
             }
@@ -61,15 +61,15 @@ static uint64_t keep_level(size_t side, size_t r, int64_t *p, uint64_t share)
 
 /* The old coder fixed the share of each level before the deeper levels were worked out. Modelled so, from the finest level:
 
-   Level r finds the (side / 2^(r-1))^2 samples that remain, and turns three quarters of them into its tetrolet coefficients. Its
-   share is therefore three quarters of what is left of the quota, rounded down; at the last level, all that is left. It keeps at once
-   its largest |W|, as many as its share (of equals the first in plane order), and drops its others for good. What it kept that is not
-   zero is taken off the quota, and only the rest goes on to the next level. */
-static void share_by_level(size_t side, size_t levels, int64_t *p, uint64_t quota)
+   Level r finds the height / 2^(r-1) times width / 2^(r-1) samples that remain, and turns three quarters of them into its tetrolet
+   coefficients. Its share is therefore three quarters of what is left of the quota, rounded down; at the last level, all that is left.
+   It keeps at once its largest |W|, as many as its share (of equals the first in plane order), and drops its others for good. What it
+   kept that is not zero is taken off the quota, and only the rest goes on to the next level. */
+static void share_by_level(size_t height, size_t width, size_t levels, int64_t *p, uint64_t quota)
 {
     for (size_t r = 1; r <= levels; r++) {
         uint64_t share = r < levels ? quota * 3 / 4 : quota;
-        quota -= keep_level(side, r, p, share);
+        quota -= keep_level(height, width, r, p, share);
     }
 }
 
@@ -94,18 +94,18 @@ static unsigned long long distance(const uint16_t *a, const uint16_t *b, size_t 
 }
 
 /* Restores `kept` and prints its squared distance to the original, and how many tetrolet coefficients each level has left. */
-static void restore_and_say(const char *what, size_t side, size_t levels, uint16_t *samples)
+static void restore_and_say(const char *what, size_t height, size_t width, size_t levels, uint16_t *samples)
 {
-    size_t area = side * side, blocks = tetrolet_blocks(side, levels);
-    accepted("restore", tetrolet_restore(side, levels, kept, area, coverings, blocks, numerators, area, samples, area, scratch, area));
+    size_t area = height * width, blocks = tetrolet_blocks(height, width, levels);
+    accepted("restore", tetrolet_restore(height, width, levels, kept, area, coverings, blocks, numerators, area, samples, area, scratch, area));
     unsigned long long d = distance(image, samples, area);
     fprintf(stderr, "%-13s squared distance %llu, for each sample %.1f; ", what, d, (double)d / (double)area);
     fprintf(stderr, "coefficients left by level:");
     for (size_t r = 1; r <= levels; r++) {
-        size_t h = side >> r, n = 0;
-        for (size_t x = 0; x < 2 * h; x++)
+        size_t h = height >> r, w = width >> r, n = 0;
+        for (size_t x = 0; x < 2 * w; x++)
             for (size_t y = 0; y < 2 * h; y++)
-                n += (x >= h || y >= h) && kept[x * side + y] != 0;
+                n += (x >= w || y >= h) && kept[x * height + y] != 0;
         fprintf(stderr, " %zu", n);
     }
     fprintf(stderr, "\n");
@@ -122,27 +122,27 @@ int main(int argc, char **argv)
     }
     size_t levels = strtoul(argv[1], NULL, 10);
     uint64_t quota = strtoull(argv[2], NULL, 10);
-    if (!read_all(stdin, (size_t)1 << 24, &bytes, &length) || !pgm_header(bytes, length, &h) || h.width != h.height || h.width > 512
-        || h.width < 64 || h.maxval > 4095 || !pgm_samples(&h, image)) {
-        fprintf(stderr, "compare: no square PGM file of side 64 to 512 with maxval up to 4095\n");
+    if (!read_all(stdin, (size_t)1 << 24, &bytes, &length) || !pgm_header(bytes, length, &h) || h.height > 512 || h.height < 64
+        || h.width > 512 || h.width < 64 || h.maxval > 4095 || !pgm_samples(&h, image)) {
+        fprintf(stderr, "compare: no PGM file of height and width 64 to 512 with maxval up to 4095\n");
         return 1;
     }
     base_init();
-    size_t side = h.width, area = side * side, blocks = tetrolet_blocks(side, levels > 8 ? 0 : levels);
-    accepted("decompose", tetrolet_decompose(side, levels, image, area, plane, area, coverings, blocks, scratch, area));
+    size_t height = h.height, width = h.width, area = height * width, blocks = tetrolet_blocks(height, width, levels > 8 ? 0 : levels);
+    accepted("decompose", tetrolet_decompose(height, width, levels, image, area, plane, area, coverings, blocks, scratch, area));
 
     /* Ours first: it refuses a quota that is too large. */
     memcpy(kept, plane, area * sizeof *plane);
-    accepted("keep", tetrolet_keep(side, levels, kept, area, quota, &left));
-    restore_and_say("ours:", side, levels, left_ours);
+    accepted("keep", tetrolet_keep(height, width, levels, kept, area, quota, &left));
+    restore_and_say("ours:", height, width, levels, left_ours);
 
     memcpy(kept, plane, area * sizeof *plane);
-    share_by_level(side, levels, kept, quota);
-    restore_and_say("old sharing:", side, levels, left_old);
+    share_by_level(height, width, levels, kept, quota);
+    restore_and_say("old sharing:", height, width, levels, left_old);
 
     memcpy(kept, plane, area * sizeof *plane);
-    accepted("keep", base_keep_raw(side, levels, kept, area, quota, &left));
-    restore_and_say("by |W| alone:", side, levels, left_raw);
+    accepted("keep", base_keep_raw(height, width, levels, kept, area, quota, &left));
+    restore_and_say("by |W| alone:", height, width, levels, left_raw);
 
     /* All use the whole range of the original's samples. */
     const uint16_t *shown[3] = { image, left_old, left_ours };
@@ -152,22 +152,22 @@ int main(int argc, char **argv)
         bright = image[i] > bright ? image[i] : bright;
     }
     unsigned span = bright > dark ? bright - dark : 1;
-    size_t gap = 8, width = 3 * side + 2 * gap, height = 2 * side + gap;
-    size_t part_x = side * 3 / 16, part_y = side / 2; /* the part that is shown large */
-    uint8_t *grey = malloc(width * height);
+    size_t gap = 8, columns = 3 * width + 2 * gap, rows = 2 * height + gap;
+    size_t part_x = width * 3 / 16, part_y = height / 2; /* the part that is shown large */
+    uint8_t *grey = malloc(columns * rows);
     if (grey == NULL)
         return 2;
-    memset(grey, 255, width * height);
+    memset(grey, 255, columns * rows);
     for (int k = 0; k < 3; k++)
-        for (size_t y = 0; y < side; y++)
-            for (size_t x = 0; x < side; x++)
+        for (size_t y = 0; y < height; y++)
+            for (size_t x = 0; x < width; x++)
                 for (int big = 0; big < 2; big++) {
                     size_t sx = big ? part_x + x / 4 : x, sy = big ? part_y + y / 4 : y;
-                    unsigned v = shown[k][sx * side + sy];
+                    unsigned v = shown[k][sx * height + sy];
                     v = v < dark ? dark : v > bright ? bright : v;
-                    grey[(y + (big ? side + gap : 0)) * width + (size_t)k * (side + gap) + x] = (uint8_t)((v - dark) * 255 / span);
+                    grey[(y + (big ? height + gap : 0)) * columns + (size_t)k * (width + gap) + x] = (uint8_t)((v - dark) * 255 / span);
                 }
-    int good = png_write(stdout, grey, (uint32_t)width, (uint32_t)height);
+    int good = png_write(stdout, grey, (uint32_t)columns, (uint32_t)rows);
     free(grey);
     free(bytes);
     return !good;

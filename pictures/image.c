@@ -92,12 +92,12 @@ int pgm_samples(const struct pgm *h, uint16_t *samples)
     return skip(at, h->end) == h->end;
 }
 
-int pgm_write(FILE *out, const uint16_t *samples, size_t side, unsigned maxval)
+int pgm_write(FILE *out, const uint16_t *samples, size_t height, size_t width, unsigned maxval)
 {
-    fprintf(out, "P5\n%zu %zu\n%u\n", side, side, maxval);
-    for (size_t y = 0; y < side; y++)
-        for (size_t x = 0; x < side; x++) {
-            unsigned v = samples[x * side + y];
+    fprintf(out, "P5\n%zu %zu\n%u\n", width, height, maxval);
+    for (size_t y = 0; y < height; y++)
+        for (size_t x = 0; x < width; x++) {
+            unsigned v = samples[x * height + y];
             if (v > maxval)
                 v = maxval;
             if (maxval > 255)

@@ -19,12 +19,12 @@ struct pgm {
 /* Takes the header. Gives 0 where the bytes break the format. */
 int pgm_header(const uint8_t *bytes, size_t length, struct pgm *header);
 
-/* Takes the samples of a square image. Gives 0 where the bytes break the format: too few, a sample over maxval, or bytes after
+/* Takes the samples. Gives 0 where the bytes break the format: too few, a sample over maxval, or bytes after
    the last one that are not white space. */
 int pgm_samples(const struct pgm *header, uint16_t *samples);
 
 /* Writes a P5 file; samples over maxval are held to it. */
-int pgm_write(FILE *out, const uint16_t *samples, size_t side, unsigned maxval);
+int pgm_write(FILE *out, const uint16_t *samples, size_t height, size_t width, unsigned maxval);
 
 /* Writes 8-bit grey values, stored along rows, as a PNG file. */
 int png_write(FILE *out, const uint8_t *grey, uint32_t width, uint32_t height);

@@ -1,11 +1,10 @@
 /* Images in PGM files to sheets and back.
 
-   pgm to-sheet LEVELS QUOTA <in.pgm >out.sheet    P2 or P5, maxval up to 4095, square, of a side that the library accepts
+   pgm to-sheet LEVELS QUOTA <in.pgm >out.sheet    P2 or P5, maxval up to 4095, of a height and a width that the library accepts
    pgm to-pgm [MAXVAL]       <in.sheet >out.pgm    P5; MAXVAL, 4095 where it is not given, is that of the original
 
    A refusal is printed as the cutter prints it: `refusal`, then the number, and the exit status is 1. A file that is no PGM file is 9;
-   an image that is not square is 1; a maxval over 4095 is 4. Their order is that of the cutter: 9 on the header, 1, 2, 9 on all that
-   follows, 4, 7. */
+   a maxval over 4095 is 4. Their order is that of the cutter: 9 on the header, 1, 2, 9 on all that follows, 4, 7. */
 #include "image.h"
 #include "tetrolet.h"
 
@@ -51,9 +50,14 @@ static int is_side(unsigned long long n)
     return n >= 4 && n <= 512 && (n & (n - 1)) == 0;
 }
 
-static int is_depth(unsigned long long side, unsigned long long levels)
+static int are_sides(unsigned long long height, unsigned long long width)
 {
-    return levels >= 1 && levels <= 8 && side >> levels >= 2;
+    return is_side(height) && is_side(width);
+}
+
+static int is_depth(unsigned long long height, unsigned long long width, unsigned long long levels)
+{
+    return levels >= 1 && levels <= 8 && height >> levels >= 2 && width >> levels >= 2;
 }
 
 static int to_sheet(unsigned long long levels, unsigned long long quota)
@@ -63,21 +67,21 @@ static int to_sheet(unsigned long long levels, unsigned long long quota)
     struct pgm h;
     if (!read_all(stdin, MOST_BYTES, &bytes, &length) || !pgm_header(bytes, length, &h))
         return refuse(TETROLET_TEXT);
-    if (h.width != h.height || !is_side(h.width))
+    if (!are_sides(h.height, h.width))
         return refuse(TETROLET_SIDE);
-    if (!is_depth(h.width, levels))
+    if (!is_depth(h.height, h.width, levels))
         return refuse(TETROLET_LEVELS);
     if (!pgm_samples(&h, samples))
         return refuse(TETROLET_TEXT);
     if (h.maxval > 4095)
         return refuse(TETROLET_SAMPLE);
     free(bytes);
-    size_t side = h.width, area = side * side, blocks = tetrolet_blocks(side, levels);
-    uint32_t n = tetrolet_decompose(side, levels, samples, area, plane, area, coverings, blocks, scratch, area);
+    size_t height = h.height, width = h.width, area = height * width, blocks = tetrolet_blocks(height, width, levels);
+    uint32_t n = tetrolet_decompose(height, width, levels, samples, area, plane, area, coverings, blocks, scratch, area);
     if (n == 0)
-        n = tetrolet_keep(side, levels, plane, area, quota, &left);
+        n = tetrolet_keep(height, width, levels, plane, area, quota, &left);
     if (n == 0)
-        n = tetrolet_write(side, levels, plane, area, coverings, blocks, sheet, sizeof sheet, &length);
+        n = tetrolet_write(height, width, levels, plane, area, coverings, blocks, sheet, sizeof sheet, &length);
     if (n != 0)
         return refuse(n);
     if (fwrite(sheet, 1, length, stdout) != length || fflush(stdout) != 0)
@@ -85,17 +89,18 @@ static int to_sheet(unsigned long long levels, unsigned long long quota)
     return 0;
 }
 
-/* The side and the levels that the second line of a sheet gives, where both are accepted; else 0, and the library says why. */
-static int frame_of(const uint8_t *text, size_t length, size_t *side, size_t *levels)
+/* The height, the width and the levels that the second line of a sheet gives, where all are accepted; else 0, and the library says why. */
+static int frame_of(const uint8_t *text, size_t length, size_t *height, size_t *width, size_t *levels)
 {
     char head[64];
-    unsigned s, l;
+    unsigned h, w, l;
     size_t n = length < sizeof head - 1 ? length : sizeof head - 1;
     memcpy(head, text, n);
     head[n] = 0;
-    if (sscanf(head, "side levels\n%9u %9u", &s, &l) != 2 || !is_side(s) || !is_depth(s, l))
+    if (sscanf(head, "height width levels\n%9u %9u %9u", &h, &w, &l) != 3 || !are_sides(h, w) || !is_depth(h, w, l))
         return 0;
-    *side = s;
+    *height = h;
+    *width = w;
     *levels = l;
     return 1;
 }
@@ -103,19 +108,19 @@ static int frame_of(const uint8_t *text, size_t length, size_t *side, size_t *le
 static int to_pgm(unsigned maxval)
 {
     uint8_t *bytes;
-    size_t length, side = 0, levels = 0, area = 0, blocks = 0;
+    size_t length, height = 0, width = 0, levels = 0, area = 0, blocks = 0;
     if (!read_all(stdin, MOST_BYTES, &bytes, &length))
         return refuse(TETROLET_TEXT);
-    if (frame_of(bytes, length, &side, &levels)) {
-        area = side * side;
-        blocks = tetrolet_blocks(side, levels);
+    if (frame_of(bytes, length, &height, &width, &levels)) {
+        area = height * width;
+        blocks = tetrolet_blocks(height, width, levels);
     }
-    uint32_t n = tetrolet_read(bytes, length, plane, area, coverings, blocks, &side, &levels);
+    uint32_t n = tetrolet_read(bytes, length, plane, area, coverings, blocks, &height, &width, &levels);
     if (n == 0)
-        n = tetrolet_restore(side, levels, plane, area, coverings, blocks, numerators, area, samples, area, scratch, area);
+        n = tetrolet_restore(height, width, levels, plane, area, coverings, blocks, numerators, area, samples, area, scratch, area);
     if (n != 0)
         return refuse(n);
-    if (!pgm_write(stdout, samples, side, maxval))
+    if (!pgm_write(stdout, samples, height, width, maxval))
         return fail("cannot write");
     return 0;
 }

@@ -1,6 +1,6 @@
 #!/usr/bin/env bash
 # Builds the picture programs; makes the synthetic veneer and the picture of what a quota leaves of it, and compares both with those
-# kept here; turns the veneer into a sheet and back. Needs a C compiler. With --built the library is taken as it stands.
+# kept here; turns the veneer, and two strips of it, into a sheet and back. Needs a C compiler. With --built the library is taken as it stands.
 set -eu
 cd "$(dirname "$0")/.."
 mkdir -p target/pictures
@@ -9,8 +9,8 @@ if [ "${1:-}" != --built ]; then
 fi
 archive=target/staticlib/libc_api.a
 flags='-O2 -std=c11 -Wall -Wextra -Iinclude -Ibench -Ipictures'
-side=256 levels=7 quota=1966
-whole=$((side * side - side * side / 4 ** levels))
+height=256 width=256 levels=7 quota=1966
+whole=$((height * width - height * width / 4 ** levels))
 
 cc $flags pictures/veneer.c pictures/image.c -o target/pictures/veneer
 target/pictures/veneer >target/pictures/veneer.pgm
@@ -26,3 +26,11 @@ target/pictures/pgm to-pgm <target/pictures/veneer.sheet >target/pictures/kept.p
 echo "target/pictures/veneer.sheet: $(wc -c <target/pictures/veneer.sheet) bytes; target/pictures/kept.pgm: what a quota of $quota leaves"
 target/pictures/pgm to-sheet $levels $whole <pictures/veneer.pgm | target/pictures/pgm to-pgm | cmp - pictures/veneer.pgm
 echo "the whole quota, $whole, gives the picture back"
+
+for strip in '64 256 5' '512 4 1'; do
+    read -r height width levels <<<"$strip"
+    whole=$((height * width - height * width / 4 ** levels))
+    target/pictures/veneer $height $width >target/pictures/strip.pgm
+    target/pictures/pgm to-sheet $levels $whole <target/pictures/strip.pgm | target/pictures/pgm to-pgm | cmp - target/pictures/strip.pgm
+    echo "so does $whole for a strip of height $height and width $width with $levels levels"
+done

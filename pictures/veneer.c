@@ -1,8 +1,10 @@
-/* Makes the synthetic veneer: fine grain over a broad stain, side 256, 12 bit, as a P5 file. Whole numbers only, so that it is the
-   same everywhere. No scan of wood is in it. */
+/* Makes the synthetic veneer: fine grain over a broad stain, 12 bit, as a P5 file: veneer [HEIGHT WIDTH], each 1 to 512, 256 where they
+   are not given; smaller ones show its upper left part. Whole numbers only, so that it is the same everywhere. No scan of wood is in it. */
 #include "image.h"
 
-enum { SIDE = 256, ONE = 256 };
+#include <stdlib.h>
+
+enum { MOST = 512, ONE = 256 };
 
 /* A fixed random number, 0 to 255, for a place and a row of numbers. */
 static int hash(int x, int row)
@@ -80,13 +82,18 @@ static int stain(int x, int y)
     return off < 4 * reach ? 900 * ease(ONE - off * ONE / (4 * reach)) / ONE : 0;
 }
 
-int main(void)
+int main(int argc, char **argv)
 {
-    static uint16_t samples[SIDE * SIDE];
-    for (int x = 0; x < SIDE; x++)
-        for (int y = 0; y < SIDE; y++) {
+    static uint16_t samples[MOST * MOST];
+    int height = argc == 3 ? atoi(argv[1]) : 256, width = argc == 3 ? atoi(argv[2]) : 256;
+    if ((argc != 1 && argc != 3) || height < 1 || height > MOST || width < 1 || width > MOST) {
+        fprintf(stderr, "use: veneer [HEIGHT WIDTH] >out.pgm\n");
+        return 2;
+    }
+    for (int x = 0; x < width; x++)
+        for (int y = 0; y < height; y++) {
             int v = 2700 + bands(x, y) + grain(x, y) - stain(x, y);
-            samples[x * SIDE + y] = (uint16_t)(v < 0 ? 0 : v > 4095 ? 4095 : v);
+            samples[x * height + y] = (uint16_t)(v < 0 ? 0 : v > 4095 ? 4095 : v);
         }
-    return !pgm_write(stdout, samples, SIDE, 4095);
+    return !pgm_write(stdout, samples, (size_t)height, (size_t)width, 4095);
 }

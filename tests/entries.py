@@ -16,30 +16,36 @@ RUBBISH = 0x5A5A
 # ---- Lengths of slices that a call does not name
 
 
-def area(side):
-    return side * side if side <= 1024 else 16
+def area(height, width):
+    return height * width if height <= 1024 and width <= 1024 else 16
 
 
-def blocks(side, levels):
-    return sum((side >> (r + 2)) ** 2 for r in range(levels)) if 0 < side <= 512 and levels < 10 else 1
+def blocks(height, width, levels):
+    if not (0 < height <= 512 and 0 < width <= 512 and levels < 10):
+        return 1
+    return sum((height >> (r + 1)) * (width >> (r + 1)) for r in range(1, levels + 1))
+
+
+def frame(e):
+    return [e["args"].get(k, 0) for k in ("height", "width", "levels")]
 
 
 def of_area(e):
-    return area(e["args"].get("side", 0))
+    return area(*frame(e)[:2])
 
 
 def of_blocks(e):
-    return blocks(e["args"].get("side", 0), e["args"].get("levels", 0))
+    return blocks(*frame(e))
 
 
 def sheet_frame(e):
-    """The side and the levels that a sheet's second line gives; 4 and 1 where there are none."""
-    m = re.match(r"side levels\n(\d{1,4}) (\d{1,2})\n", e["args"]["text"])
-    return (int(m[1]), int(m[2])) if m else (4, 1)
+    """The height, the width and the levels that a sheet's second line gives; 4, 4 and 1 where there are none."""
+    m = re.match(r"height width levels\n(\d{1,4}) (\d{1,4}) (\d{1,2})\n", e["args"]["text"])
+    return [int(n) for n in m.groups()] if m else [4, 4, 1]
 
 
 def of_sheet_area(e):
-    return area(sheet_frame(e)[0])
+    return area(*sheet_frame(e)[:2])
 
 
 def of_sheet_blocks(e):
@@ -109,7 +115,7 @@ class Given:
         return self.data.value
 
 
-FRAME = [Number("side"), Number("levels")]
+FRAME = [Number("height"), Number("width"), Number("levels")]
 PLANE, COVERS = Slice("plane", "i64"), Slice("covers", "u8")
 SCRATCH = Slice("scratch", "i64", of_area)
 
@@ -120,7 +126,7 @@ ENTRIES = {
     "keep": ("tetrolet_keep", FRAME + [Slice("plane", "i64", of_area), Number("quota", "u64"), Given("left")]),
     "cut": ("tetrolet_threshold", FRAME + [Slice("plane", "i64", of_area), Number("threshold", "u64"), Given("left")]),
     "write": ("tetrolet_write", FRAME + [PLANE, COVERS, Text("tray", "u8", of_text), Given("length")]),
-    "read": ("tetrolet_read", [Slice("text", "u8"), Slice("plane", "i64", of_sheet_area), Slice("covers", "u8", of_sheet_blocks), Given("side"), Given("levels")]),
+    "read": ("tetrolet_read", [Slice("text", "u8"), Slice("plane", "i64", of_sheet_area), Slice("covers", "u8", of_sheet_blocks), Given("height"), Given("width"), Given("levels")]),
     "usage": ("tetrolet_usage", [COVERS, Text("tray", "u8", of_text), Given("length")]),
 }
 

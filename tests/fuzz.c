@@ -1,6 +1,6 @@
-/* Random and damaged calls through the C interface, compared with the plain C of bench/baseline.c and, where the side is at most 16,
+/* Random and damaged calls through the C interface, compared with the plain C of bench/baseline.c and, where the area is at most 256,
    with the plain second implementation (crate plain_c): the answer, every slice and every number lent. A refused call must leave all
-   as it was.
+   as it was. More than half of the calls have slices made for strips, as many tall ones as wide ones.
 
    fuzz [CALLS [SEED]]
 
@@ -114,13 +114,13 @@ static void differ(const char *what)
 
 struct tally {
     const char *name;
-    unsigned long accepted, refused[REFUSALS], plain;
+    unsigned long accepted, refused[REFUSALS], plain, tall, wide; /* tall, wide: slices made for a strip */
 };
 
 /* Whether the plain second implementation, which is slow, is asked too. */
-static int asks_plain(size_t side)
+static int asks_plain(size_t area)
 {
-    return side <= 16;
+    return area <= 256;
 }
 
 /* Compares what the library left with what the plain second implementation left, which answered c. */
@@ -167,39 +167,87 @@ static void drop(void)
 
 /* ---- Random arguments ---- */
 
-static size_t good_side(void)
+/* A good height or width, most often a small one. */
+static size_t small_side(void)
 {
     uint64_t n = below(4096);
     return n < 2100 ? 4 : n < 3300 ? 8 : n < 3900 ? 16 : n < 4070 ? 32 : n < 4092 ? 64 : n < 4094 ? 128 : n < 4095 ? 256 : 512;
 }
 
-static size_t most_levels(size_t side)
+/* A good height or width, now and then a large one. */
+static size_t large_side(void)
+{
+    uint64_t n = below(64);
+    return n < 20 ? 4 : n < 36 ? 8 : n < 48 ? 16 : n < 56 ? 32 : n < 60 ? 64 : n < 62 ? 128 : n < 63 ? 256 : 512;
+}
+
+/* The levels that a height or a width allows by itself. */
+static size_t most_levels(size_t n)
 {
     size_t r = 0;
-    while (side > 2) {
-        side /= 2;
+    while (n > 2) {
+        n /= 2;
         r++;
     }
     return r;
 }
 
-/* The side and the levels of a call, and those that its slices are made for. */
+/* The height, the width and the levels of a call, and those that its slices are made for. */
 struct frame {
-    size_t side, levels, area, blocks, good_levels, made;
+    size_t height, width, levels, made_height, made_width, made_levels, area, blocks;
 };
+
+/* The sizes that the slices are made for: a square once in five times, else a strip. */
+static void make_sizes(struct frame *f)
+{
+    size_t a = small_side(), b = a;
+    if (!once_in(5))
+        while (a == b)
+            b = large_side();
+    int turn = once_in(2);
+    f->made_height = turn ? a : b;
+    f->made_width = turn ? b : a;
+}
 
 static struct frame make_frame(void)
 {
-    static const size_t bad_sides[] = { 0, 1, 2, 3, 5, 6, 7, 12, 20, 24, 48, 513, 1024, 65540, ((size_t)1 << 32) + 4, (size_t)1 << 63, SIZE_MAX };
+    static const size_t bad_sides[] = { 0, 1, 2, 3, 5, 6, 7, 12, 20, 24, 48, 513, 1024, 65540, (size_t)1 << 32, ((size_t)1 << 32) + 4, (size_t)1 << 63,
+                                        SIZE_MAX };
     static const size_t bad_levels[] = { 0, 9, 10, 63, 64, 65, 257, ((size_t)1 << 32) + 1, SIZE_MAX };
     struct frame f;
-    f.made = good_side();
-    f.good_levels = 1 + below(most_levels(f.made));
-    f.area = f.made * f.made;
-    f.blocks = tetrolet_blocks(f.made, f.good_levels);
-    f.side = once_in(25) ? bad_sides[below(sizeof bad_sides / sizeof *bad_sides)] : f.made;
-    f.levels = once_in(25) ? bad_levels[below(sizeof bad_levels / sizeof *bad_levels)] : once_in(40) ? most_levels(f.made) + 1 : f.good_levels;
+    make_sizes(&f);
+    size_t of_height = most_levels(f.made_height), of_width = most_levels(f.made_width);
+    size_t most = of_height < of_width ? of_height : of_width, other = of_height < of_width ? of_width : of_height;
+    f.made_levels = 1 + below(most);
+    f.area = f.made_height * f.made_width;
+    f.blocks = tetrolet_blocks(f.made_height, f.made_width, f.made_levels);
+    f.height = f.made_height;
+    f.width = f.made_width;
+    uint64_t kind = below(60);
+    if (kind == 0 || kind == 2) /* height, width or both are bad */
+        f.height = bad_sides[below(sizeof bad_sides / sizeof *bad_sides)];
+    if (kind == 1 || kind == 2)
+        f.width = bad_sides[below(sizeof bad_sides / sizeof *bad_sides)];
+    if (kind == 3) { /* each for the other: the slices are as long as they must be */
+        f.height = f.made_width;
+        f.width = f.made_height;
+    }
+    if (kind == 4)
+        f.height = large_side();
+    if (kind == 5)
+        f.width = large_side();
+    f.levels = f.made_levels;
+    if (once_in(25))
+        f.levels = bad_levels[below(sizeof bad_levels / sizeof *bad_levels)];
+    else if (once_in(25)) /* too many for the smaller of the two, though the larger may allow them */
+        f.levels = most + 1 + below(other - most + 1);
     return f;
+}
+
+static void count_strip(struct tally *t, struct frame f)
+{
+    t->tall += f.made_height > f.made_width;
+    t->wide += f.made_height < f.made_width;
 }
 
 /* A length that is now and then wrong. */
@@ -244,7 +292,8 @@ static void fill_plane(int64_t *p, size_t n, struct frame f)
         uint64_t range = 1 + below(4096);
         for (size_t i = 0; i < f.area; i++)
             samples[i] = (uint16_t)below(range);
-        if (base_decompose(BASE_STRAIGHT, f.made, f.good_levels, samples, f.area, p, f.area, coverings, f.blocks, scratch, f.area) != 0)
+        if (base_decompose(BASE_STRAIGHT, f.made_height, f.made_width, f.made_levels, samples, f.area, p, f.area, coverings, f.blocks, scratch,
+                           f.area) != 0)
             abort();
         free(samples);
         free(scratch);
@@ -252,11 +301,11 @@ static void fill_plane(int64_t *p, size_t n, struct frame f)
     } else {
         uint64_t kind = below(4);
         for (size_t i = 0; i < n; i++) {
-            size_t x = i / f.made, y = i % f.made, m = x > y ? x : y, r = 1;
-            while (r < f.good_levels && m < f.made >> r)
+            size_t x = i / f.made_height, y = i % f.made_height, r = 1;
+            while (r < f.made_levels && y < f.made_height >> r && x < f.made_width >> r)
                 r++;
-            int low = m < f.made >> f.good_levels;
-            int64_t most = low ? (int64_t)4095 << 2 * f.good_levels : (int64_t)8190 << 2 * (r - 1);
+            int low = y < f.made_height >> f.made_levels && x < f.made_width >> f.made_levels;
+            int64_t most = low ? (int64_t)4095 << 2 * f.made_levels : (int64_t)8190 << 2 * (r - 1);
             if (kind == 0)
                 p[i] = 0;
             else if (kind == 1)
@@ -302,6 +351,28 @@ static size_t line_end(size_t at)
     return at < text_len ? at + 1 : at;
 }
 
+/* Another head: that of a text for squares, whole or by half, or height and width exchanged in its names or in its values. */
+static void damage_head(void)
+{
+    char head[64];
+    unsigned h, w, l;
+    size_t first = line_end(0), second = line_end(first), n = second - first;
+    if (n >= sizeof head)
+        return;
+    memcpy(head, text + first, n);
+    head[n] = 0;
+    if (sscanf(head, "%4u %4u %4u", &h, &w, &l) != 3)
+        return;
+    uint64_t kind = below(5);
+    const char *names = kind < 2 ? "side levels" : kind == 2 ? "width height levels" : "height width levels";
+    int put;
+    if (kind == 1 || kind == 3)
+        put = snprintf(head, sizeof head, "%s\n%u %u\n", names, h, l);
+    else
+        put = snprintf(head, sizeof head, "%s\n%u %u %u\n", names, kind == 4 ? w : h, kind == 4 ? h : w, l);
+    splice(0, second, head, (size_t)put);
+}
+
 /* One damage to the text. */
 static void damage(void)
 {
@@ -312,9 +383,13 @@ static void damage(void)
     if (text_len == 0)
         return;
     size_t at = below(text_len);
-    uint64_t kind = below(10);
+    uint64_t kind = below(11);
+    if (kind == 10) {
+        damage_head();
+        return;
+    }
     if (kind >= 8) { /* a number of the second line, or the last number of a line in the first half */
-        at = kind == 8 ? line_end(0) + below(4) : line_end(below(text_len / 2 + 1)) - 1;
+        at = kind == 8 ? line_end(0) + below(6) : line_end(below(text_len / 2 + 1)) - 1;
         if (at >= text_len)
             return;
         kind = 3;
@@ -390,62 +465,66 @@ static void call_word(struct tally *t)
 static void call_decompose(struct tally *t)
 {
     struct frame f = make_frame();
+    count_strip(t, f);
     struct slice *samples = lend(length_near(f.area), 2), *plane = lend(length_near(f.area), 8), *coverings = lend(length_near(f.blocks), 1),
                  *scratch = lend(length_near(f.area), 8);
     fill_samples(samples->base, samples->len);
     settle();
-    uint32_t a = tetrolet_decompose(f.side, f.levels, samples->lib, samples->len, plane->lib, plane->len, coverings->lib, coverings->len, scratch->lib,
-                                    scratch->len);
-    if (asks_plain(f.made))
-        compare_plain(t, a, plain_decompose(words, WORDS, f.side, f.levels, samples->plain, samples->len, plane->plain, plane->len,
+    uint32_t a = tetrolet_decompose(f.height, f.width, f.levels, samples->lib, samples->len, plane->lib, plane->len, coverings->lib,
+                                    coverings->len, scratch->lib, scratch->len);
+    if (asks_plain(f.area))
+        compare_plain(t, a, plain_decompose(words, WORDS, f.height, f.width, f.levels, samples->plain, samples->len, plane->plain, plane->len,
                                             coverings->plain, coverings->len, scratch->plain, scratch->len));
-    compare(t, a, base_decompose((int)below(2), f.side, f.levels, samples->base, samples->len, plane->base, plane->len, coverings->base, coverings->len,
-                                 scratch->base, scratch->len));
+    compare(t, a, base_decompose((int)below(2), f.height, f.width, f.levels, samples->base, samples->len, plane->base, plane->len,
+                                 coverings->base, coverings->len, scratch->base, scratch->len));
 }
 
 static void call_restore(struct tally *t)
 {
     struct frame f = make_frame();
+    count_strip(t, f);
     struct slice *plane = lend(length_near(f.area), 8), *coverings = lend(length_near(f.blocks), 1), *numerators = lend(length_near(f.area), 8),
                  *samples = lend(length_near(f.area), 2), *scratch = lend(length_near(f.area), 8);
     fill_plane(plane->base, plane->len, f);
     fill_coverings(coverings->base, coverings->len);
     settle();
-    uint32_t a = tetrolet_restore(f.side, f.levels, plane->lib, plane->len, coverings->lib, coverings->len, numerators->lib, numerators->len,
+    uint32_t a = tetrolet_restore(f.height, f.width, f.levels, plane->lib, plane->len, coverings->lib, coverings->len, numerators->lib, numerators->len,
                                   samples->lib, samples->len, scratch->lib, scratch->len);
-    if (asks_plain(f.made))
-        compare_plain(t, a, plain_restore(words, WORDS, f.side, f.levels, plane->plain, plane->len, coverings->plain, coverings->len,
+    if (asks_plain(f.area))
+        compare_plain(t, a, plain_restore(words, WORDS, f.height, f.width, f.levels, plane->plain, plane->len, coverings->plain, coverings->len,
                                           numerators->plain, numerators->len, samples->plain, samples->len, scratch->plain, scratch->len));
-    compare(t, a, base_restore(f.side, f.levels, plane->base, plane->len, coverings->base, coverings->len, numerators->base, numerators->len,
+    compare(t, a, base_restore(f.height, f.width, f.levels, plane->base, plane->len, coverings->base, coverings->len, numerators->base, numerators->len,
                                samples->base, samples->len, scratch->base, scratch->len));
 }
 
 static void call_keep(struct tally *t)
 {
     struct frame f = make_frame();
+    count_strip(t, f);
     struct slice *plane = lend(length_near(f.area), 8), *left = lend(1, sizeof(size_t));
-    uint64_t most = f.area - (f.area >> 2 * f.good_levels), kind = below(12);
+    uint64_t most = f.area - (f.area >> 2 * f.made_levels), kind = below(12);
     uint64_t quota = kind == 0 ? 0 : kind == 1 ? most : kind == 2 ? most + 1 : kind == 3 ? next() : kind == 4 ? UINT64_MAX : below(most + 1);
     fill_plane(plane->base, plane->len, f);
     settle();
-    uint32_t a = tetrolet_keep(f.side, f.levels, plane->lib, plane->len, quota, left->lib);
-    if (asks_plain(f.made))
-        compare_plain(t, a, plain_keep(f.side, f.levels, plane->plain, plane->len, quota, left->plain));
-    compare(t, a, base_keep(f.side, f.levels, plane->base, plane->len, quota, left->base));
+    uint32_t a = tetrolet_keep(f.height, f.width, f.levels, plane->lib, plane->len, quota, left->lib);
+    if (asks_plain(f.area))
+        compare_plain(t, a, plain_keep(f.height, f.width, f.levels, plane->plain, plane->len, quota, left->plain));
+    compare(t, a, base_keep(f.height, f.width, f.levels, plane->base, plane->len, quota, left->base));
 }
 
 static void call_threshold(struct tally *t)
 {
     struct frame f = make_frame();
+    count_strip(t, f);
     struct slice *plane = lend(length_near(f.area), 8), *left = lend(1, sizeof(size_t));
     uint64_t kind = below(12);
     uint64_t threshold = kind == 0 ? 0 : kind == 1 ? 1000000 : kind == 2 ? 1000001 : kind == 3 ? next() : kind == 4 ? UINT64_MAX : below(kind * 100);
     fill_plane(plane->base, plane->len, f);
     settle();
-    uint32_t a = tetrolet_threshold(f.side, f.levels, plane->lib, plane->len, threshold, left->lib);
-    if (asks_plain(f.made))
-        compare_plain(t, a, plain_threshold(f.side, f.levels, plane->plain, plane->len, threshold, left->plain));
-    compare(t, a, base_threshold(f.side, f.levels, plane->base, plane->len, threshold, left->base));
+    uint32_t a = tetrolet_threshold(f.height, f.width, f.levels, plane->lib, plane->len, threshold, left->lib);
+    if (asks_plain(f.area))
+        compare_plain(t, a, plain_threshold(f.height, f.width, f.levels, plane->plain, plane->len, threshold, left->plain));
+    compare(t, a, base_threshold(f.height, f.width, f.levels, plane->base, plane->len, threshold, left->base));
 }
 
 /* A buffer for a text of n bytes: of that length, one more, one less, or any. */
@@ -459,46 +538,51 @@ static void call_write(struct tally *t)
 {
     static uint8_t sheet[TETROLET_MAX_SHEET];
     struct frame f = make_frame();
+    count_strip(t, f);
     struct slice *plane = lend(length_near(f.area), 8), *coverings = lend(length_near(f.blocks), 1), *length = lend(1, sizeof(size_t));
     fill_plane(plane->base, plane->len, f);
     fill_coverings(coverings->base, coverings->len);
     size_t n = 0;
-    if (base_write(BASE_PRINTF, f.side, f.levels, plane->base, plane->len, coverings->base, coverings->len, sheet, sizeof sheet, &n) != 0)
+    if (base_write(BASE_PRINTF, f.height, f.width, f.levels, plane->base, plane->len, coverings->base, coverings->len, sheet, sizeof sheet, &n) != 0)
         n = below(400);
     struct slice *buffer = lend_buffer(n);
     settle();
-    uint32_t a = tetrolet_write(f.side, f.levels, plane->lib, plane->len, coverings->lib, coverings->len, buffer->lib, buffer->len, length->lib);
-    if (asks_plain(f.made))
-        compare_plain(t, a, plain_write(f.side, f.levels, plane->plain, plane->len, coverings->plain, coverings->len, buffer->plain,
+    uint32_t a = tetrolet_write(f.height, f.width, f.levels, plane->lib, plane->len, coverings->lib, coverings->len, buffer->lib, buffer->len,
+                                length->lib);
+    if (asks_plain(f.area))
+        compare_plain(t, a, plain_write(f.height, f.width, f.levels, plane->plain, plane->len, coverings->plain, coverings->len, buffer->plain,
                                         buffer->len, length->plain));
-    compare(t, a, base_write(BASE_DIGITS, f.side, f.levels, plane->base, plane->len, coverings->base, coverings->len, buffer->base, buffer->len,
+    compare(t, a, base_write(BASE_DIGITS, f.height, f.width, f.levels, plane->base, plane->len, coverings->base, coverings->len, buffer->base, buffer->len,
                              length->base));
 }
 
 static void call_read(struct tally *t)
 {
     struct frame f = make_frame();
-    while (f.made > 64)
+    while (f.area > 4096)
         f = make_frame();
+    count_strip(t, f);
     int64_t *p = malloc(f.area * sizeof *p);
     uint8_t *c = malloc(f.blocks);
     fill_plane(p, f.area, f);
     for (size_t i = 0; i < f.blocks; i++)
         c[i] = (uint8_t)(1 + below(117));
-    if (base_write(BASE_DIGITS, f.made, f.good_levels, p, f.area, c, f.blocks, text, sizeof text, &text_len) != 0)
+    if (base_write(BASE_DIGITS, f.made_height, f.made_width, f.made_levels, p, f.area, c, f.blocks, text, sizeof text, &text_len) != 0)
         text_len = below(64);
     free(p);
     free(c);
     damage_some();
     struct slice *sheet = lend(text_len, 1), *plane = lend(length_near(f.area), 8), *coverings = lend(length_near(f.blocks), 1),
-                 *side = lend(1, sizeof(size_t)), *levels = lend(1, sizeof(size_t));
+                 *height = lend(1, sizeof(size_t)), *width = lend(1, sizeof(size_t)), *levels = lend(1, sizeof(size_t));
     memcpy(sheet->base, text, text_len);
     settle();
-    uint32_t a = tetrolet_read(sheet->lib, sheet->len, plane->lib, plane->len, coverings->lib, coverings->len, side->lib, levels->lib);
-    if (asks_plain(f.made))
-        compare_plain(t, a, plain_read(sheet->plain, sheet->len, plane->plain, plane->len, coverings->plain, coverings->len, side->plain,
-                                       levels->plain));
-    compare(t, a, base_read(sheet->base, sheet->len, plane->base, plane->len, coverings->base, coverings->len, side->base, levels->base));
+    uint32_t a = tetrolet_read(sheet->lib, sheet->len, plane->lib, plane->len, coverings->lib, coverings->len, height->lib, width->lib,
+                               levels->lib);
+    if (asks_plain(f.area))
+        compare_plain(t, a, plain_read(sheet->plain, sheet->len, plane->plain, plane->len, coverings->plain, coverings->len, height->plain,
+                                       width->plain, levels->plain));
+    compare(t, a, base_read(sheet->base, sheet->len, plane->base, plane->len, coverings->base, coverings->len, height->base, width->base,
+                            levels->base));
 }
 
 static void call_usage(struct tally *t)
@@ -532,14 +616,14 @@ int main(int argc, char **argv)
         void (*run)(struct tally *);
         struct tally tally;
     } entries[] = {
-        { call_word, { "word", 0, { 0 }, 0 } },
-        { call_decompose, { "decompose", 0, { 0 }, 0 } },
-        { call_restore, { "restore", 0, { 0 }, 0 } },
-        { call_keep, { "keep", 0, { 0 }, 0 } },
-        { call_threshold, { "threshold", 0, { 0 }, 0 } },
-        { call_write, { "write", 0, { 0 }, 0 } },
-        { call_read, { "read", 0, { 0 }, 0 } },
-        { call_usage, { "usage", 0, { 0 }, 0 } },
+        { call_word, { "word", 0, { 0 }, 0, 0, 0 } },
+        { call_decompose, { "decompose", 0, { 0 }, 0, 0, 0 } },
+        { call_restore, { "restore", 0, { 0 }, 0, 0, 0 } },
+        { call_keep, { "keep", 0, { 0 }, 0, 0, 0 } },
+        { call_threshold, { "threshold", 0, { 0 }, 0, 0, 0 } },
+        { call_write, { "write", 0, { 0 }, 0, 0, 0 } },
+        { call_read, { "read", 0, { 0 }, 0, 0, 0 } },
+        { call_usage, { "usage", 0, { 0 }, 0, 0, 0 } },
     };
     size_t count = sizeof entries / sizeof *entries;
     for (call_number = 0; call_number < calls; call_number++) {
@@ -548,14 +632,17 @@ int main(int argc, char **argv)
         entries[k].run(&entries[k].tally);
         drop();
     }
+    unsigned long tall = 0, wide = 0;
     for (size_t k = 0; k < count; k++) {
         struct tally *t = &entries[k].tally;
         printf("%-10s %8lu accepted; refused:", t->name, t->accepted);
         for (int n = 1; n < REFUSALS; n++)
             if (t->refused[n] != 0)
                 printf("  %d: %lu", n, t->refused[n]);
-        printf("; beside the second implementation: %lu\n", t->plain);
+        printf("; beside the second implementation: %lu; strips: %lu tall, %lu wide\n", t->plain, t->tall, t->wide);
+        tall += t->tall;
+        wide += t->wide;
     }
-    printf("%llu calls, no difference\n", (unsigned long long)calls);
+    printf("%llu calls, no difference; strips: %lu tall, %lu wide\n", (unsigned long long)calls, tall, wide);
     return 0;
 }

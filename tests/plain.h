@@ -8,17 +8,18 @@
 
 void plain_words(uint8_t *words, size_t words_len);
 uint32_t plain_word(const uint8_t *words, size_t words_len, uint8_t covering, uint8_t *word, size_t word_len);
-uint32_t plain_decompose(const uint8_t *words, size_t words_len, size_t side, size_t levels, const uint16_t *samples, size_t samples_len,
-                         int64_t *plane, size_t plane_len, uint8_t *coverings, size_t coverings_len, int64_t *scratch, size_t scratch_len);
-uint32_t plain_restore(const uint8_t *words, size_t words_len, size_t side, size_t levels, const int64_t *plane, size_t plane_len,
-                       const uint8_t *coverings, size_t coverings_len, int64_t *numerators, size_t numerators_len, uint16_t *samples,
+uint32_t plain_decompose(const uint8_t *words, size_t words_len, size_t height, size_t width, size_t levels, const uint16_t *samples,
+                         size_t samples_len, int64_t *plane, size_t plane_len, uint8_t *coverings, size_t coverings_len, int64_t *scratch,
+                         size_t scratch_len);
+uint32_t plain_restore(const uint8_t *words, size_t words_len, size_t height, size_t width, size_t levels, const int64_t *plane,
+                       size_t plane_len, const uint8_t *coverings, size_t coverings_len, int64_t *numerators, size_t numerators_len, uint16_t *samples,
                        size_t samples_len, int64_t *scratch, size_t scratch_len);
-uint32_t plain_keep(size_t side, size_t levels, int64_t *plane, size_t plane_len, uint64_t quota, size_t *left);
-uint32_t plain_threshold(size_t side, size_t levels, int64_t *plane, size_t plane_len, uint64_t limit, size_t *left);
-uint32_t plain_write(size_t side, size_t levels, const int64_t *plane, size_t plane_len, const uint8_t *coverings, size_t coverings_len,
-                     uint8_t *buffer, size_t buffer_len, size_t *length);
+uint32_t plain_keep(size_t height, size_t width, size_t levels, int64_t *plane, size_t plane_len, uint64_t quota, size_t *left);
+uint32_t plain_threshold(size_t height, size_t width, size_t levels, int64_t *plane, size_t plane_len, uint64_t limit, size_t *left);
+uint32_t plain_write(size_t height, size_t width, size_t levels, const int64_t *plane, size_t plane_len, const uint8_t *coverings,
+                     size_t coverings_len, uint8_t *buffer, size_t buffer_len, size_t *length);
 uint32_t plain_read(const uint8_t *text, size_t text_len, int64_t *plane, size_t plane_len, uint8_t *coverings, size_t coverings_len,
-                    size_t *side, size_t *levels);
+                    size_t *height, size_t *width, size_t *levels);
 uint32_t plain_usage(const uint8_t *coverings, size_t coverings_len, uint8_t *buffer, size_t buffer_len, size_t *length);
 
 #endif
