@@ -2,3 +2,4 @@ pub mod Held
 pub mod Bounds
 pub mod Sheets
 pub mod Prints
+pub mod Input

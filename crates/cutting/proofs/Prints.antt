@@ -60,7 +60,7 @@ module _ (h w R K : ℕ) (rest : List ℕ) where
   unfolding sizesText
   size-2 e l d = rw (e, l, d)
 
-  size-good : isSides h w ≡ true → (ltb 32 h || ltb 32 w) ≡ false → isDepth R h w ≡ true → sizesText h w R K rest ≡ samplesText h w R K (parse (samplesForm h w) rest)
+  pub size-good : isSides h w ≡ true → (ltb 32 h || ltb 32 w) ≡ false → isDepth R h w ≡ true → sizesText h w R K rest ≡ samplesText h w R K (parse (samplesForm h w) rest)
   unfolding sizesText
   size-good e l d = rw (e, l, d)
 

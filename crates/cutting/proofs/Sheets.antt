@@ -62,7 +62,7 @@ module _ (h w R K : ℕ) (s : List ℕ) where
   unfolding pictureText
   print-4 e = rw e
 
-  print-kept : every isSample s ≡ true → pictureText h w R K s ≡ keptText h w R K (planeOf R h w s) (coversOf R h w s)
+  pub print-kept : every isSample s ≡ true → pictureText h w R K s ≡ keptText h w R K (planeOf R h w s) (coversOf R h w s)
   unfolding pictureText
   print-kept e = rw e
 
@@ -70,7 +70,7 @@ module _ (h w R K : ℕ) (p : List ℤ) (c : List ℕ) where
   print-7 : ltb (quotaLimit h w R) K ≡ true → keptText h w R K p c ≡ refusalText 7
   print-7 e = rw e
 
-  print-sheet : ltb (quotaLimit h w R) K ≡ false → keptText h w R K p c ≡ sheetText h w R (keptOf R h w K p) c
+  pub print-sheet : ltb (quotaLimit h w R) K ≡ false → keptText h w R K p c ≡ sheetText h w R (keptOf R h w K p) c
   print-sheet e = rw e
 
 pub held-text : (h w R K : ℕ) (s : List ℕ) → pictureText h w R K (map heldTo s) ≡ pictureText h w R K s

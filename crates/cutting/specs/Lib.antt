@@ -1,3 +1,4 @@
 pub mod Cutter
 pub mod Checked
+pub mod Laws
 pub mod Pictures

@@ -9,8 +9,9 @@ ghost use Rattle.pyramid.specs.Plane.{allBlocks};
 ghost use Rattle.pyramid.specs.Sides.{isSides, isDepth};
 ghost use Rattle.text.specs.Text.{parse};
 ghost use Rattle.cutter_text.specs.Forms.{samplesForm};
-ghost use Rattle.cutting.specs.Cutter.{refusalText, pictureText, samplesText, cutterText, Printed};
+ghost use Rattle.cutting.specs.Cutter.{refusalText, pictureText, samplesText, inputLimit, cutterText, Printed};
 ghost use Rattle.cutting.specs.Checked.{Checked};
+ghost use Rattle.cutting.specs.Laws.{CutterLaws};
 ghost use Rattle.cutting.specs.Pictures.{keptText, OfPicture};
 use cutter_text::header::Header;
 use refusals::Answer;
@@ -145,6 +146,13 @@ fn print_rows(
         return put_refusal(out, refusals::code(found));
     };
     print_picture(height, width, levels, quota, samples, out)
+}
+
+// The longest input. Its contract carries the law of good pictures, which is so a part of what the check proves.
+pub fn longest_input() -> usize
+    ensures { λ r. ⌜ (r ≡ inputLimit) × CutterLaws ⌝ }
+{
+    65536
 }
 
 // Whether a picture is too large for the bench, in its height or in its width.
