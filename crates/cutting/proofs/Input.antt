@@ -1,35 +1,31 @@
 -- The input for a good picture gives its kept sheet. Assumes nothing.
 use mathlib.Core.Path.{_≡_, refl, ap, _∙_}
-use mathlib.Core.Bool.{true, false, _||_}
 use mathlib.Core.List.{List, [], _∷_, _++_}
 use mathlib.Core.Option.{some}
-use Prim.Native.Nat.{ℕ, zero, suc, _+_, _*_, _<_, _≤_}
+use Prim.Native.Nat.{ℕ, zero, suc, _+_, _*_, _≤_}
 use native.Mathlib.Omega.{arith}
 use native.Mathlib.Nat.{mul-le-mul, one-le-pow}
-use lib.Dec.{ltb}
 use lib.IntN.{ℤ, pos}
 use lib.ListN.{length, getD, length-append}
 use borrow.Author.Tests.{le-ltb}
-use Rattle.integers.specs.Lists.{every, tabulate}
+use Rattle.integers.specs.Lists.{tabulate}
 use Rattle.integers.proofs.Tabulate.{length-tabulate}
 use Rattle.integers.proofs.Tests.{is-true}
 use Rattle.pyramid.specs.Slices.{planeOf, coversOf}
 use Rattle.places.proofs.Sides.{Passed, passed}
 use Rattle.quota.specs.Quota.{keptOf, quotaLimit}
 use Rattle.coder.specs.Claims.{Picture}
-use Rattle.coder.specs.Entries.{isSample}
 use Rattle.coder.proofs.Gates.{small-samples}
 use Rattle.text.specs.Bytes.{bytes}
-use Rattle.text.specs.Text.{limit, got, plain, exactly, rows, rowText, rowsText, valueText, after, render, skip, sections, parse, FitsCount, FitsRows, FitsRow, FitsValue}
+use Rattle.text.specs.Text.{got, plain, exactly, rowText, rowsText, valueText, after, render, sections, parse, FitsCount, FitsRows, FitsRow, FitsValue}
 use Rattle.text.proofs.Exact.{skip-text}
 use Rattle.text.proofs.Rows.{rows-text, stops-letter}
 use Rattle.text.proofs.Stamp.{value-length}
 use Rattle.sheet_text.specs.Sheet.{sheetText}
 use Rattle.cutter_text.specs.Forms.{headerForm, samplesForm}
-use Rattle.cutter_text.specs.Picture.{pictureIn}
 use Rattle.cutter_text.specs.Laws.{pictureRows}
 use Rattle.cutter_text.proofs.Laws.{laws as pictures}
-use Rattle.cutting.specs.Cutter.{pictureText, samplesText, sizesText, headerText, inputLimit, cutterText}
+use Rattle.cutting.specs.Cutter.{pictureText, samplesText, headerText, inputLimit, cutterText}
 use Rattle.cutting.specs.Laws.{inputText, CutterLaws}
 use Rattle.cutting.proofs.Prints.{size-good}
 use Rattle.cutting.proofs.Sheets.{print-kept, print-sheet}

@@ -1,24 +1,24 @@
 -- The bytes of the lines of blocks and of entries, cell by cell of a walk. Assumes nothing.
 use mathlib.Core.Path.{_≡_, refl, sym, ap, _∙_}
-use mathlib.Core.Bool.{Bool, true, false, cond, _&&_}
-use mathlib.Core.List.{List, [], _∷_, _++_, append-nil, append-assoc}
-use Prim.Native.Nat.{ℕ, zero, suc, _+_, _*_, _<_, _≤_}
+use mathlib.Core.Bool.{Bool, true, false, cond}
+use mathlib.Core.List.{List, [], _∷_, _++_}
+use Prim.Native.Nat.{ℕ, suc, _+_, _<_, _≤_}
 use native.Mathlib.Numerals.{add-one}
 use native.Mathlib.Omega.{arith}
-use lib.IntN.{ℤ, pos, natAbs}
+use lib.IntN.{ℤ}
 use lib.ListN.{length, getD, drop, drop-of-length-le, length-append}
-use lib.Seq.{drop-cons, append-snoc}
+use lib.Seq.{drop-cons}
 use Rattle.integers.specs.Lists.{every}
-use Rattle.text.specs.Bytes.{bytes}
-use Rattle.text.specs.Text.{rowsText, rowText, render, valueText, after, digits}
+use Rattle.text.specs.Text.{rowsText, digits}
 use Rattle.text.specs.Write.{cellText, fourText, fiveText}
-use Rattle.text.proofs.Stamp.{three-row, four-row, five-row}
+use Rattle.text.proofs.Stamp.{four-row, five-row}
 use Rattle.pyramid.specs.Plane.{Image}
 use Rattle.pyramid.specs.Places.{Place, BlockPlace, at}
 use Rattle.pyramid.specs.Ranges.{fitsRange}
 use Rattle.places.specs.declared.walk.Walk.{Walk}
-use Rattle.sheet_text.specs.Rows.{isZero, blockRow, entryRow, withRow, blockRows, entryRows}
+use Rattle.sheet_text.specs.Rows.{isZero, entryRow, withRow, blockRows, entryRows}
 use Rattle.sheet_text.specs.Sheet.{blocksText, entriesText, headPart, blockPart, entryPart, sheetText}
+use Rattle.sheet_text.proofs.Laws.{sheet-parts}
 use Rattle.places.specs.Walk.{entriesLeft, blocksLeft, entryOf, blockOf}
 use Rattle.sheet_render.specs.Line.{lineOf}
 use Rattle.integers.proofs.Tests.{both-true}
@@ -84,12 +84,6 @@ pub line-some : (k : Walk) (v : ℤ) → isZero v ≡ false → lineOf k v ≡ f
 line-some k v z = ap (λ (b : Bool). cond b [] (fiveText (k .level) (k .band) (k .row) (k .col) v)) z
 
 -- ---- the whole text
-
-pub sheet-parts : (h w R : ℕ) (P : List ℤ) (cs : List ℕ) → sheetText h w R P cs ≡ headPart h w R ++ (blockPart R h w cs ++ entryPart R h w P)
-unfolding render rowsText
-sheet-parts h w R P cs =
-    ap (λ x. bytes "height width levels\n" ++ ((x ++ []) ++ (blockPart R h w cs ++ (entryPart R h w P ++ [])))) (three-row h w R)
-    ∙ simp (append-nil)
 
 pub sheet-length : (h w R : ℕ) (P : List ℤ) (cs : List ℕ) → length (sheetText h w R P cs)
     ≡ 68 + (length (digits h) + length (digits w) + length (digits R) + length (blocksText R h w cs) + length (entriesText R h w P))

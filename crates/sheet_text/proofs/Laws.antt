@@ -1,7 +1,7 @@
--- The two laws of sheets: what is written is read back, and what is read is what is written. Assumes nothing.
+-- The laws of sheets: what is written is read back, what is read is what is written, and the bytes of a sheet. Assumes nothing.
 use mathlib.Core.Path.{_≡_, refl, sym, ap, _∙_, subst}
 use mathlib.Core.Bool.{Bool, true, false, cond, _&&_}
-use mathlib.Core.List.{List, [], _∷_, _++_, map}
+use mathlib.Core.List.{List, [], _∷_, _++_, map, append-nil}
 use mathlib.Core.Option.{Option, none, some}
 use Prim.Native.Nat.{ℕ, zero, suc, _+_, _-_, _*_, _^_, _<_, _≤_}
 use native.Mathlib.Nat.{pow-le-pow-right}
@@ -13,8 +13,10 @@ use lib.ListN.{length, getD, replicate, length-replicate}
 use Rattle.integers.specs.Lists.{every}
 use Rattle.refusals.proofs.After.{past}
 use Rattle.coverings.specs.Entry.{isNumber}
-use Rattle.text.specs.Text.{render, parse, Fits, FitsCount, FitsRows, FitsRow, FitsValue, areSections, isSection}
+use Rattle.text.specs.Bytes.{bytes}
+use Rattle.text.specs.Text.{rowsText, render, parse, Fits, FitsCount, FitsRows, FitsRow, FitsValue, areSections, isSection}
 use Rattle.text.specs.Lines.{three, four, five, cellAt}
+use Rattle.text.proofs.Stamp.{three-row}
 use Rattle.text.proofs.Exact.{IsText, parse-sound, parse-text}
 use Rattle.pyramid.specs.Plane.{Image, allBlocks}
 use Rattle.pyramid.specs.Places.{Place, BlockPlace, planePlaces, blockPlaces, at}
@@ -24,7 +26,7 @@ use Rattle.pyramid.specs.Ranges.{isLow, fitsRange, inRange}
 use Rattle.sheet_text.specs.Forms.{sheetForm}
 use Rattle.places.specs.Walk.{indexIn}
 use Rattle.sheet_text.specs.Rows.{isZero, entryRow, blockRows, entryRows, coversOf, valuesOf, spread}
-use Rattle.sheet_text.specs.Sheet.{sheetRows, headOf, sheetText, writeRefusal, isSome, listIn, rowsOf, heightIn, widthIn, levelsIn, saidCoverings, saidValues, coveringsIn, planeIn, judge, readRefusal}
+use Rattle.sheet_text.specs.Sheet.{sheetRows, headOf, headPart, blockPart, entryPart, sheetText, writeRefusal, isSome, listIn, rowsOf, heightIn, widthIn, levelsIn, saidCoverings, saidValues, coveringsIn, planeIn, judge, readRefusal}
 use Rattle.sheet_text.specs.Claims.{GivesBack, GivesAgain, SheetLaws}
 use Rattle.sheet_text.proofs.Each.{Each}
 use Rattle.integers.proofs.Tests.{both-true}
@@ -260,5 +262,12 @@ forth t P cs buffer h =
     let e = ap (render sheetForm) (s .rows-are) ∙ x .text in
     record { accepted = λ l. accepts _ _ _ _ _ buffer (s .valid) (subst (λ (u : List ℕ). length u ≤ length buffer) (sym e) l); same = e }
 
+-- the bytes, part by part
+pub sheet-parts : (h w R : ℕ) (P : List ℤ) (cs : List ℕ) → sheetText h w R P cs ≡ headPart h w R ++ (blockPart R h w cs ++ entryPart R h w P)
+unfolding render rowsText
+sheet-parts h w R P cs =
+    ap (λ x. bytes "height width levels\n" ++ ((x ++ []) ++ (blockPart R h w cs ++ (entryPart R h w P ++ [])))) (three-row h w R)
+    ∙ simp (append-nil)
+
 pub laws : SheetLaws
-laws = record { written-is-read = back; read-is-written = forth }
+laws = record { parts = sheet-parts; written-is-read = back; read-is-written = forth }

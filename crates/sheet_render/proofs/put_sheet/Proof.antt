@@ -11,7 +11,8 @@ use Rattle.text.specs.Text.{digits}
 use Rattle.text.proofs.Stamp.{Put, put-more, put-length, width-le}
 use Rattle.sheet_text.specs.Sheet.{blocksText, entriesText, headPart, blockPart, entryPart, sheetText}
 use Rattle.places.proofs.Sides.{Passed, passed}
-use Rattle.sheet_render.proofs.Pieces.{sheet-parts, sheet-length}
+use Rattle.sheet_text.proofs.Laws.{sheet-parts}
+use Rattle.sheet_render.proofs.Pieces.{sheet-length}
 use borrow.Author.Needs.{needs}
 use Rattle.sheet_render.proofs.put_sheet.Statement.{statement}
 use Rattle.sheet_render.proofs.put_sheet.Tie as tie
