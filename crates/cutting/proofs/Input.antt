@@ -17,10 +17,10 @@ use Rattle.quota.specs.Quota.{keptOf, quotaLimit}
 use Rattle.coder.specs.Claims.{Picture}
 use Rattle.coder.proofs.Gates.{small-samples}
 use Rattle.text.specs.Bytes.{bytes}
-use Rattle.text.specs.Text.{got, plain, exactly, rowText, rowsText, valueText, after, render, sections, parse, FitsCount, FitsRows, FitsRow, FitsValue}
+use Rattle.text.specs.Text.{got, plain, exactly, rowText, rowsText, render, sections, parse, FitsCount, FitsRows, FitsRow, FitsValue}
 use Rattle.text.proofs.Exact.{skip-text}
 use Rattle.text.proofs.Rows.{rows-text, stops-letter}
-use Rattle.text.proofs.Stamp.{value-length}
+use Rattle.text.proofs.Stamp.{row-most}
 use Rattle.sheet_text.specs.Sheet.{sheetText}
 use Rattle.cutter_text.specs.Forms.{headerForm, samplesForm}
 use Rattle.cutter_text.specs.Laws.{pictureRows}
@@ -32,18 +32,13 @@ use Rattle.cutting.proofs.Sheets.{print-kept, print-sheet}
 
 -- ---- how long it is
 
-line-length : (vs : List ℤ) → length (rowText vs) ≤ 12 * length vs
-unfolding rowText
-line-length [] = omega arith
-line-length (v ∷ vs) = omega (arith, length-append (valueText v) (after vs ∷ rowText vs), value-length v, line-length vs)
-
 lines-length : (n w : ℕ) (f : ℕ → List ℤ) → ((y : ℕ) → length (f y) ≡ w) → length (rowsText (tabulate n f)) ≤ n * (12 * w)
 unfolding rowsText
 lines-length zero w f e = omega arith
 lines-length (suc n) w f e =
     let a = ap (λ (m : ℕ). 12 * m) (e 0) in
     let b : suc n * (12 * w) ≡ 12 * w + n * (12 * w) = omega arith in
-    omega (arith, length-append (rowText (f 0)) (rowsText (tabulate n (λ y. f (suc y)))), line-length (f 0), lines-length n w (λ y. f (suc y)) (λ y. e (suc y)))
+    omega (arith, length-append (rowText (f 0)) (rowsText (tabulate n (λ y. f (suc y)))), row-most (f 0), lines-length n w (λ y. f (suc y)) (λ y. e (suc y)))
 
 module _ (h w R K : ℕ) (s : List ℕ) where
   abbrev head : List (List ℤ)
@@ -54,10 +49,6 @@ module _ (h w R K : ℕ) (s : List ℕ) where
 
   abbrev names : List ℕ
   names = bytes "height width levels quota\n"
-
-  input-is : inputText h w R K s ≡ names ++ (rowsText head ++ rest)
-  unfolding render
-  input-is = refl
 
   module _ (p : Picture h w R s) (a : h ≤ 32) (b : w ≤ 32) (k : K ≤ quotaLimit h w R) where
     q : Passed h w R
@@ -76,7 +67,7 @@ module _ (h w R K : ℕ) (s : List ℕ) where
           length-append names (rowsText head ++ rest),
           length-append (rowsText head) rest,
           length-append (rowText (pos h ∷ pos w ∷ pos R ∷ pos K ∷ [])) [],
-          line-length (pos h ∷ pos w ∷ pos R ∷ pos K ∷ []),
+          row-most (pos h ∷ pos w ∷ pos R ∷ pos K ∷ []),
           length-append (bytes "samples\n") (rowsText (pictureRows h w s) ++ []),
           length-append (rowsText (pictureRows h w s)) [],
           lines-length h w (λ y. tabulate w (λ x. pos (getD s (x * h + y) 0))) (λ y. length-tabulate w (λ x. pos (getD s (x * h + y) 0))),

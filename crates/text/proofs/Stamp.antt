@@ -196,6 +196,11 @@ unfolding valueText
 value-length (pos n) = omega (arith, width-le 10 n)
 value-length (negsuc n) = omega (arith, width-le 10 (suc n))
 
+pub row-most : (vs : List ℤ) → length (rowText vs) ≤ 12 * length vs
+unfolding rowText
+row-most [] = omega arith
+row-most (v ∷ vs) = omega (arith, length-append (valueText v) (after vs ∷ rowText vs), value-length v, row-most vs)
+
 -- written from the front
 pub stamp-front : (l out : List ℕ) → stamp 0 l out ≡ l ++ drop (length l) out
 stamp-front l out = let z : 0 + length l ≡ length l = omega arith in ap (λ (n : ℕ). l ++ drop n out) z
