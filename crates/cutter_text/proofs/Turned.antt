@@ -3,11 +3,11 @@ use mathlib.Core.Path.{_≡_, refl, sym, ap, _∙_}
 use mathlib.Core.List.{List, [], _∷_, map}
 use Prim.Native.Nat.{ℕ, zero, suc, _+_, _*_, _-_, _/_, _%_, _<_, _≤_}
 use native.Mathlib.Omega.{arith}
-use native.Mathlib.Nat.{mod-lt, div-lt-iff-lt-mul, div-add-mod'}
+use native.Mathlib.Nat.{div-add-mod'}
 use lib.IntN.{ℤ, pos, natAbs}
 use lib.ListN.{length, getD, set, length-set, length-map, List·getD-map}
 use lib.Seq.{ext-getD, getD-set-same, getD-set-other}
-use Rattle.integers.proofs.Index.{index-bound, column-row, column-col}
+use Rattle.integers.proofs.Index.{index-bound, index-place, column-row, column-col}
 use Rattle.integers.proofs.Tabulate.{length-tabulate, getD-tabulate}
 use Rattle.text.specs.Text.{FitsRow, FitsRows}
 use Rattle.cutter_text.specs.Forms.{plains}
@@ -99,19 +99,14 @@ pub picture-at : (h w : ℕ) (rs : List (List ℤ)) (k : ℕ) → k < w * h → 
 unfolding pictureIn
 picture-at h w rs k l = getD-tabulate (w * h) (sampleAt h rs) 0 k l
 
-pub positive : (h w k : ℕ) → k < w * h → 0 < h
-positive zero w k l = absurd (omega arith)
-positive (suc h) w k l = omega arith
-
 pub turned : (h w : ℕ) (rs : List (List ℤ)) (out : List ℕ) → length rs ≡ h → FitsRows (plains w) rs → length out ≡ w * h → rowsIn h 0 rs out ≡ map heldTo (pictureIn h w rs)
 turned h w rs out e f k =
     ext-getD 0 (rowsIn h 0 rs out) (map heldTo (pictureIn h w rs)) (length-rows h 0 rs out ∙ k ∙ sym (length-picture h w rs) ∙ sym (length-map (pictureIn h w rs) heldTo))
     (λ i l. let g : i < w * h = omega (arith, length-rows h 0 rs out) in
-    let z = positive h w i g in
-    let a = mod-lt i z in
-    let b = div-lt-iff-lt-mul z .1 g in
+    let z = index-place h w i g in
+    let a = z .0 in
     let u : 0 + i % h ≡ i % h = omega arith in
     ap (λ (j : ℕ). getD (rowsIn h 0 rs out) j 0) (sym (div-add-mod' i h) ∙ ap (λ (j : ℕ). i / h * h + j) (sym u))
-    ∙ rows-at h w 0 (i % h) rs out (i / h) (omega arith) k b (omega arith) (fits-at w rs f)
+    ∙ rows-at h w 0 (i % h) rs out (i / h) (omega arith) k (z .1) (omega arith) (fits-at w rs f)
     ∙ ap heldTo (sym (picture-at h w rs i g))
     ∙ sym (List·getD-map heldTo (pictureIn h w rs) i 0))

@@ -10,9 +10,12 @@ use Rattle.text.specs.Text.{limit, render, parse}
 use Rattle.cutter_text.specs.Forms.{samplesForm}
 use Rattle.cutter_text.specs.Picture.{pictureIn}
 
--- Document 02, wish 2: "height rows of width values"; document 01: "left to right", of samples "stored down columns". The rows of a picture.
+-- Document 02, wish 2: "height rows of width values"; document 01: "left to right", of samples "stored down columns". Row y of a picture, and all rows.
+abbrev pub pictureRow : ℕ → ℕ → List ℕ → ℕ → List ℤ
+pictureRow h w s y = tabulate w (λ x. pos (getD s (x * h + y) 0))
+
 abbrev pub pictureRows : ℕ → ℕ → List ℕ → List (List ℤ)
-pictureRows h w s = tabulate h (λ y. tabulate w (λ x. pos (getD s (x * h + y) 0)))
+pictureRows h w s = tabulate h (pictureRow h w s)
 
 pub record PictureLaws : Type 0 where
   -- under the name `samples` they are read

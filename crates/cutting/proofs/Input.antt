@@ -23,7 +23,7 @@ use Rattle.text.proofs.Rows.{rows-text, stops-letter}
 use Rattle.text.proofs.Stamp.{row-most}
 use Rattle.sheet_text.specs.Sheet.{sheetText}
 use Rattle.cutter_text.specs.Forms.{headerForm, samplesForm}
-use Rattle.cutter_text.specs.Laws.{pictureRows}
+use Rattle.cutter_text.specs.Laws.{pictureRow, pictureRows}
 use Rattle.cutter_text.proofs.Laws.{laws as pictures}
 use Rattle.cutting.specs.Cutter.{pictureText, samplesText, headerText, inputLimit, cutterText}
 use Rattle.cutting.specs.Laws.{inputText, CutterLaws}
@@ -70,7 +70,7 @@ module _ (h w R K : ℕ) (s : List ℕ) where
           row-most (pos h ∷ pos w ∷ pos R ∷ pos K ∷ []),
           length-append (bytes "samples\n") (rowsText (pictureRows h w s) ++ []),
           length-append (rowsText (pictureRows h w s)) [],
-          lines-length h w (λ y. tabulate w (λ x. pos (getD s (x * h + y) 0))) (λ y. length-tabulate w (λ x. pos (getD s (x * h + y) 0))),
+          lines-length h w (pictureRow h w s) (λ y. length-tabulate w (λ x. pos (getD s (x * h + y) 0))),
           area,
         )
 

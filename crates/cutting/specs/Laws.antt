@@ -17,6 +17,6 @@ abbrev pub inputText : ℕ → ℕ → ℕ → ℕ → List ℕ → List ℕ
 inputText h w R K s = render (headerForm ++ samplesForm h w) (((pos h ∷ pos w ∷ pos R ∷ pos K ∷ []) ∷ []) ∷ pictureRows h w s ∷ [])
 
 pub record CutterLaws : Type 0 where
-  -- the input of a good picture of at most 32 by 32, with a quota that it has, is not refused: its kept sheet is printed
+  -- the input of a good picture of at most 32 by 32, with a quota that passes 7, is not refused: the sheet of its kept plane is printed
   pub cuts : (h w R K : ℕ) (s : List ℕ) → Picture h w R s → h ≤ 32 → w ≤ 32 → K ≤ quotaLimit h w R
       → cutterText (inputText h w R K s) ≡ sheetText h w R (keptOf R h w K (planeOf R h w s)) (coversOf R h w s)

@@ -51,7 +51,7 @@ sides-pass : (h w : ℕ) → T (isSide h) → T (isSide w) → T (isSides h w)
 unfolding isSides
 sides-pass h w s t = both (isSide h) (isSide w) s t
 
--- the levels that pass the test leave a square of at least two
+-- the levels that pass the test leave a side of at least two
 depth-below : (R m : ℕ) {n : ℕ} → n ≡ 2 ^ m → 2 ^ suc R ≤ n → R < m
 depth-below R m e h = go (decLt R m)
   where

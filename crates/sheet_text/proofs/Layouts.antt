@@ -4,14 +4,14 @@ use mathlib.Core.Bool.{Bool, true, false, _&&_}
 use mathlib.Core.List.{List, [], _∷_, _++_}
 use mathlib.Core.Logic.{_≢_}
 use Prim.Native.Nat.{ℕ, zero, suc, _+_, _-_, _*_, _/_, _%_, _<_, _≤_}
-use native.Mathlib.Nat.{div-add-mod', mod-lt, div-lt-iff-lt-mul}
+use native.Mathlib.Nat.{div-add-mod'}
 use native.Mathlib.Omega.{arith}
 use borrow.Author.Tests.{eqb-true}
 use lib.Dec.{eqb}
 use lib.IntN.{pos}
 use lib.ListN.{length, getD, length-append}
 use Rattle.integers.specs.Lists.{tabulate}
-use Rattle.integers.proofs.Index.{index-bound, column-row, column-col}
+use Rattle.integers.proofs.Index.{index-bound, index-place, column-row, column-col}
 use Rattle.integers.proofs.Tabulate.{length-tabulate}
 use Rattle.pyramid.specs.Plane.{Fits, top, left, halved, allBlocks, blocks}
 use Rattle.pyramid.specs.Places.{Place, BlockPlace, placeAt, noPlace, bandPlaces, placesFrom, planePlaces, blocksFrom, blockPlaces}
@@ -105,14 +105,10 @@ module _ (R h w : ℕ) (f : Fits (suc R) h w) where
   pub inside : Each (λ p. indexIn h p < w * h) ps
   inside = each-of (λ p. indexIn h p < w * h) noPlace ps (λ n l. let i = plane-inside 0 R h w f n l in index-bound ((pl n) .across) ((pl n) .down) w h (i .1) (i .0))
 
-  positive : (k m n : ℕ) → k < m * n → 0 < n
-  positive k m zero l = absurd (omega arith)
-  positive k m (suc n) l = omega arith
-
   pub onto : (k : ℕ) → k < w * h → AtIndex h k ps
   onto k l =
-      let z = positive k w h l in
-      let a = entry-at 0 R h w f (k % h) (k / h) (mod-lt k z) ((div-lt-iff-lt-mul z) .1 l) in
+      let z = index-place h w k l in
+      let a = entry-at 0 R h w f (k % h) (k / h) (z .0) (z .1) in
       at-number h k ps (numberIn (suc R) h w (k % h) (k / h)) (a .inside) ((λ i. a .across i * h + a .down i) ∙ div-add-mod' k h)
 
   key-spot : (p q : Place) → Known 0 (suc R) h w p → Known 0 (suc R) h w q → isPlace p (entryRow q (pos 0)) ≡ true → (p .down ≡ q .down) × (p .across ≡ q .across)
@@ -159,10 +155,6 @@ places-small R h w r hh hw =
     (λ n l. let i = known 0 R (suc R) h w (omega arith) n l in
     record { level = omega (arith, i .below); band = i .band; row = omega (arith, i .row); col = omega (arith, i .col) })
 
-square-row : (h w k : ℕ) → k < w * h → (k % h < h) × (k / h < w)
-square-row zero w k q = absurd (omega arith)
-square-row (suc h) w k q = (mod-lt k (omega arith), div-lt-iff-lt-mul {k = suc h} (omega arith) .1 q)
-
 abbrev levelBlocks : ℕ → ℕ → ℕ → List BlockPlace
 levelBlocks d h w = tabulate ((w / 4) * (h / 4)) (λ k. record { level = suc d; row = k % (h / 4); col = k / (h / 4) })
 
@@ -172,7 +164,7 @@ blocks-small d zero h w r hh hw = tt
 blocks-small d (suc R) h w r hh hw =
     each-append SmallBlock (levelBlocks d h w) (blocksFrom (suc d) R (h / 2) (w / 2))
     (each-tabulate SmallBlock ((w / 4) * (h / 4)) (λ k. record { level = suc d; row = k % (h / 4); col = k / (h / 4) })
-    (λ k q. let s = square-row (h / 4) (w / 4) k q in record { level = omega arith; row = omega (arith, s .0); col = omega (arith, s .1) }))
+    (λ k q. let s = index-place (h / 4) (w / 4) k q in record { level = omega arith; row = omega (arith, s .0); col = omega (arith, s .1) }))
     (blocks-small (suc d) R (h / 2) (w / 2) (omega arith) (omega arith) (omega arith))
 
 -- as many blocks as there are coverings
