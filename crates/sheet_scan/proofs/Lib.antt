@@ -1,2 +1,4 @@
+pub mod Fronts
 pub mod Scans
+pub mod Stored
 pub mod Whole

@@ -1,16 +1,16 @@
 -- Lines along places, one place at a time. Assumes nothing.
 use mathlib.Core.Path.{_≡_, refl, sym, ap, _∙_}
 use mathlib.Core.Bool.{Bool, true, false, cond, not, _&&_}
-use mathlib.Core.List.{List, [], _∷_, map}
+use mathlib.Core.List.{List, [], _∷_, _++_, map}
 use mathlib.Core.Option.{Option, none, some}
-use Prim.Native.Nat.{ℕ, zero, suc, _<_, _≤_}
+use Prim.Native.Nat.{ℕ, suc, _*_, _-_, _^_}
 use native.Mathlib.Omega.{arith}
-use borrow.Author.Tests.{eq-eqb, ne-eqb}
-use lib.Dec.{eqb}
-use lib.IntN.{ℤ, pos, natAbs}
-use Rattle.text.specs.Text.{limit}
+use borrow.Author.Tests.{le-leb, not-true}
+use lib.Dec.{eqb, leb}
+use lib.IntN.{ℤ, pos}
 use lib.ListN.{getD, length}
 use Rattle.integers.specs.Lists.{every}
+use Rattle.integers.proofs.Tests.{both-true}
 use Rattle.coverings.specs.Entry.{isNumber}
 use Rattle.text.specs.Lines.{cellAt}
 use Rattle.pyramid.specs.Plane.{Image}
@@ -48,9 +48,11 @@ some-cons p ps rs = ap isSome (values-cons p ps rs) ∙ go (zeroHere p rs)
     go true = refl
     go false = some-before (valueHere p rs) (valuesOf ps (linesPast p rs))
 
-some-end : (rs : List (List ℤ)) → rs ≡ [] → isSome (valuesOf [] rs) ≡ true
+-- where no line is left, no entry has one
+none-some : (ps : List Place) → isSome (valuesOf ps []) ≡ true
 unfolding valuesOf
-some-end rs e = ap (λ l. isSome (valuesOf [] l)) e
+none-some [] = refl
+none-some (p ∷ ps) = some-before (pos 0) (valuesOf ps []) ∙ none-some ps
 
 some-over : (r : List ℤ) (rs l : List (List ℤ)) → l ≡ r ∷ rs → isSome (valuesOf [] l) ≡ false
 unfolding valuesOf
@@ -91,6 +93,19 @@ fit-end : (R : ℕ) (rs : List (List ℤ)) → fitAlong R [] rs ≡ true
 unfolding fitAlong
 fit-end R rs = refl
 
+-- 0 is in every range
+zero-fits : (R : ℕ) (p : Place) → fitsRange R p (pos 0) ≡ true
+zero-fits R p = either (eqb (p .band) 0)
+  where
+    either : (b : Bool) → cond b (leb 0 (4095 * 4 ^ R)) (leb 0 (2 * 4 ^ (p .level - 1) * 4095)) ≡ true
+    either true = le-leb 0 (4095 * 4 ^ R) (omega arith)
+    either false = le-leb 0 (2 * 4 ^ (p .level - 1) * 4095) (omega arith)
+
+none-fits : (R : ℕ) (ps : List Place) → fitAlong R ps [] ≡ true
+unfolding fitAlong
+none-fits R [] = refl
+none-fits R (p ∷ ps) = λ i. zero-fits R p i && none-fits R ps i
+
 -- two tests and what is left of a third
 and-assoc : (a b c : Bool) → ((a && b) && c) ≡ (a && (b && c))
 and-assoc true b c = refl
@@ -105,20 +120,23 @@ and-false true = refl
 and-false false = refl
 
 -- a pass along the places: what was found so far, and what is left
-pub some-again : (p : Place) (t ps : List Place) (rs rs′ : List (List ℤ)) (a z c : Bool) → ps ≡ p ∷ t → rs′ ≡ linesPast p rs → c ≡ (a && not z) → z ≡ zeroHere p rs
+some-again : (p : Place) (t ps : List Place) (rs rs′ : List (List ℤ)) (a z c : Bool) → ps ≡ p ∷ t → rs′ ≡ linesPast p rs → c ≡ (a && not z) → z ≡ zeroHere p rs
     → (c && isSome (valuesOf t rs′)) ≡ (a && isSome (valuesOf ps rs))
 some-again p t ps rs rs′ a z c e f g h =
     (λ i. g i && isSome (valuesOf t (f i))) ∙ and-assoc a (not z) (isSome (valuesOf t (linesPast p rs)))
     ∙ ap (λ (x : Bool). a && x) ((λ i. not (h i) && isSome (valuesOf t (linesPast p rs))) ∙ sym (some-cons p t rs) ∙ sym (ap (λ l. isSome (valuesOf l rs)) e))
 
-pub fit-again : (R : ℕ) (p : Place) (t ps : List Place) (rs rs′ : List (List ℤ)) (a b c : Bool) → ps ≡ p ∷ t → rs′ ≡ linesPast p rs → c ≡ (a && b) → b ≡ fitsRange R p (valueHere p rs)
+fit-again : (R : ℕ) (p : Place) (t ps : List Place) (rs rs′ : List (List ℤ)) (a b c : Bool) → ps ≡ p ∷ t → rs′ ≡ linesPast p rs → c ≡ (a && b) → b ≡ fitsRange R p (valueHere p rs)
     → (c && fitAlong R t rs′) ≡ (a && fitAlong R ps rs)
 fit-again R p t ps rs rs′ a b c e f g h =
     (λ i. g i && fitAlong R t (f i)) ∙ and-assoc a b (fitAlong R t (linesPast p rs))
     ∙ ap (λ (x : Bool). a && x) ((λ i. h i && fitAlong R t (linesPast p rs)) ∙ sym (fit-cons R p t rs) ∙ sym (ap (λ l. fitAlong R l rs) e))
 
-pub some-done : (a : Bool) (ps : List Place) (rs : List (List ℤ)) → ps ≡ [] → rs ≡ [] → a ≡ (a && isSome (valuesOf ps rs))
-some-done a ps rs e f = sym (ap (λ (x : Bool). a && x) (ap (λ l. isSome (valuesOf l rs)) e ∙ some-end rs f) ∙ and-true a)
+pub some-stop : (a : Bool) (ps : List Place) (rs : List (List ℤ)) → rs ≡ [] → a ≡ (a && isSome (valuesOf ps rs))
+some-stop a ps rs e = sym (ap (λ (x : Bool). a && x) (ap (λ l. isSome (valuesOf ps l)) e ∙ none-some ps) ∙ and-true a)
+
+pub fit-stop : (R : ℕ) (a : Bool) (ps : List Place) (rs : List (List ℤ)) → rs ≡ [] → a ≡ (a && fitAlong R ps rs)
+fit-stop R a ps rs e = sym (ap (λ (x : Bool). a && x) (ap (λ l. fitAlong R ps l) e ∙ none-fits R ps) ∙ and-true a)
 
 pub some-left : (a : Bool) (ps : List Place) (r : List ℤ) (rs l : List (List ℤ)) → ps ≡ [] → l ≡ r ∷ rs → false ≡ (a && isSome (valuesOf ps l))
 some-left a ps r rs l e f = sym (ap (λ (x : Bool). a && x) (ap (λ q. isSome (valuesOf q l)) e ∙ some-over r rs l f) ∙ and-false a)
@@ -126,43 +144,52 @@ some-left a ps r rs l e f = sym (ap (λ (x : Bool). a && x) (ap (λ q. isSome (v
 pub fit-done : (R : ℕ) (a : Bool) (ps : List Place) (rs : List (List ℤ)) → ps ≡ [] → a ≡ (a && fitAlong R ps rs)
 fit-done R a ps rs e = sym (ap (λ (x : Bool). a && x) (ap (λ l. fitAlong R l rs) e ∙ fit-end R rs) ∙ and-true a)
 
--- a line by its cells
-module _ (p : Place) (r : List ℤ) (rs : List (List ℤ)) where
-  other : isPlace p r ≡ false → (valueHere p (r ∷ rs) ≡ pos 0) × (zeroHere p (r ∷ rs) ≡ false) × (linesPast p (r ∷ rs) ≡ r ∷ rs)
-  other e = (rw e, rw e, rw e)
+-- ---- a line that is of no entry of some, or of one of them
 
-  pub not-level : (cellAt r 0 ≡ p .level → ⊥) → isPlace p r ≡ false
-  not-level n = rw (ne-eqb (cellAt r 0) (p .level) n)
+not-here : (p : Place) (r : List ℤ) → not (isPlace p r) ≡ true → isPlace p r ≡ false
+not-here p r e = not-true (isPlace p r) e
 
-  pub not-band : cellAt r 0 ≡ p .level → (cellAt r 1 ≡ p .band → ⊥) → isPlace p r ≡ false
-  not-band a n = rw (eq-eqb (cellAt r 0) (p .level) a, ne-eqb (cellAt r 1) (p .band) n)
+module _ (r : List ℤ) (rs : List (List ℤ)) where
+  abbrev pub Others : List Place → Type 0
+  Others qs = every (λ p. not (isPlace p r)) qs ≡ true
 
-  pub not-row : cellAt r 0 ≡ p .level → cellAt r 1 ≡ p .band → (cellAt r 2 ≡ p .row → ⊥) → isPlace p r ≡ false
-  not-row a b n = rw (eq-eqb (cellAt r 0) (p .level) a, eq-eqb (cellAt r 1) (p .band) b, ne-eqb (cellAt r 2) (p .row) n)
+  some-others : (qs ps : List Place) → Others qs → isSome (valuesOf (qs ++ ps) (r ∷ rs)) ≡ isSome (valuesOf ps (r ∷ rs))
+  unfolding valuesOf
+  some-others [] ps e = refl
+  some-others (q ∷ qs) ps e =
+      let o = both-true (not (isPlace q r)) _ e in
+      rw (not-here q r (o .0)) (some-before (pos 0) (valuesOf (qs ++ ps) (r ∷ rs)) ∙ some-others qs ps (o .1))
 
-  pub not-col : cellAt r 0 ≡ p .level → cellAt r 1 ≡ p .band → cellAt r 2 ≡ p .row → (cellAt r 3 ≡ p .col → ⊥) → isPlace p r ≡ false
-  not-col a b c n = rw (eq-eqb (cellAt r 0) (p .level) a, eq-eqb (cellAt r 1) (p .band) b, eq-eqb (cellAt r 2) (p .row) c, ne-eqb (cellAt r 3) (p .col) n)
+  fit-others : (R : ℕ) (qs ps : List Place) → Others qs → fitAlong R (qs ++ ps) (r ∷ rs) ≡ fitAlong R ps (r ∷ rs)
+  unfolding fitAlong
+  fit-others R [] ps e = refl
+  fit-others R (q ∷ qs) ps e =
+      let o = both-true (not (isPlace q r)) _ e in
+      rw (not-here q r (o .0), zero-fits R q) (fit-others R qs ps (o .1))
 
-  pub the-place : cellAt r 0 ≡ p .level → cellAt r 1 ≡ p .band → cellAt r 2 ≡ p .row → cellAt r 3 ≡ p .col → isPlace p r ≡ true
-  the-place a b c d = rw (eq-eqb (cellAt r 0) (p .level) a, eq-eqb (cellAt r 1) (p .band) b, eq-eqb (cellAt r 2) (p .row) c, eq-eqb (cellAt r 3) (p .col) d)
+  -- what was found so far, and what is left behind them
+  pub some-skip : (a : Bool) (qs K K′ : List Place) (l : List (List ℤ)) → Others qs → K ≡ qs ++ K′ → l ≡ r ∷ rs → (a && isSome (valuesOf K′ l)) ≡ (a && isSome (valuesOf K l))
+  some-skip a qs K K′ l o e f = ap (λ (x : Bool). a && x) ((λ i. isSome (valuesOf K′ (f i))) ∙ sym ((λ i. isSome (valuesOf (e i) (f i))) ∙ some-others qs K′ o))
 
--- what `look` answers, by cases
-abbrev pub Looked : Place → List (List ℤ) → ℤ → Bool → List (List ℤ) → Type 0
-Looked p l v z l′ = (v ≡ valueHere p l) × (z ≡ zeroHere p l) × (l′ ≡ linesPast p l) × (natAbs v ≤ limit)
+  pub fit-skip : (R : ℕ) (a : Bool) (qs K K′ : List Place) (l : List (List ℤ)) → Others qs → K ≡ qs ++ K′ → l ≡ r ∷ rs → (a && fitAlong R K′ l) ≡ (a && fitAlong R K l)
+  fit-skip R a qs K K′ l o e f = ap (λ (x : Bool). a && x) ((λ i. fitAlong R K′ (f i)) ∙ sym ((λ i. fitAlong R (e i) (f i)) ∙ fit-others R qs K′ o))
 
-pub looked-end : (p : Place) (l : List (List ℤ)) → l ≡ [] → Looked p l (pos 0) false l
-looked-end p l e = (ap (valueHere p) (sym e), ap (zeroHere p) (sym e), e ∙ ap (linesPast p) (sym e), omega arith)
+  -- the line of the present entry
+  line-here : (p : Place) (l : List (List ℤ)) → isPlace p r ≡ true → l ≡ r ∷ rs → (valueHere p l ≡ getD r 4 (pos 0)) × (zeroHere p l ≡ isZero (getD r 4 (pos 0))) × (linesPast p l ≡ rs)
+  line-here p l e f = (ap (valueHere p) f ∙ rw e refl, ap (zeroHere p) f ∙ rw e refl, ap (linesPast p) f ∙ rw e refl)
 
-pub looked-other : (p : Place) (r : List ℤ) (rs l : List (List ℤ)) → l ≡ r ∷ rs → isPlace p r ≡ false → Looked p l (pos 0) false l
-looked-other p r rs l e h =
-    let o = other p r rs h in
-    (sym (ap (valueHere p) e ∙ o .0), sym (ap (zeroHere p) e ∙ o .1), e ∙ sym (ap (linesPast p) e ∙ o .2), omega arith)
+  -- past entries of which the line is not, and past its own
+  pub some-line : (a z c : Bool) (qs K t : List Place) (p : Place) (l : List (List ℤ)) → Others qs → K ≡ qs ++ (p ∷ t) → l ≡ r ∷ rs → isPlace p r ≡ true → c ≡ (a && not z) → z ≡ isZero (getD r 4 (pos 0))
+      → (c && isSome (valuesOf t rs)) ≡ (a && isSome (valuesOf K l))
+  some-line a z c qs K t p l o e f h g y =
+      let x = line-here p l h f in
+      some-again p t (p ∷ t) l rs a z c refl (sym (x .2)) g (y ∙ sym (x .1)) ∙ some-skip a qs K (p ∷ t) l o e f
 
-pub looked-zero : (p : Place) (r : List ℤ) (rs l : List (List ℤ)) → l ≡ r ∷ rs → isPlace p r ≡ true → isZero (getD r 4 (pos 0)) ≡ true → getD r 4 (pos 0) ≡ pos 0 → Looked p l (pos 0) true rs
-looked-zero p r rs l e h z y = (sym (ap (valueHere p) e ∙ rw h y), sym (ap (zeroHere p) e ∙ rw (h, z)), sym (ap (linesPast p) e ∙ rw h), omega arith)
-
-pub looked-value : (p : Place) (r : List ℤ) (rs l : List (List ℤ)) (v : ℤ) → l ≡ r ∷ rs → isPlace p r ≡ true → v ≡ getD r 4 (pos 0) → isZero (getD r 4 (pos 0)) ≡ false → natAbs (getD r 4 (pos 0)) ≤ limit → Looked p l v false rs
-looked-value p r rs l v e h g z b = (g ∙ sym (ap (valueHere p) e ∙ rw h), sym (ap (zeroHere p) e ∙ rw (h, z)), sym (ap (linesPast p) e ∙ rw h), omega (arith, ap natAbs g, b))
+  pub fit-line : (R : ℕ) (a b c : Bool) (qs K t : List Place) (p : Place) (l : List (List ℤ)) → Others qs → K ≡ qs ++ (p ∷ t) → l ≡ r ∷ rs → isPlace p r ≡ true → c ≡ (a && b) → b ≡ fitsRange R p (getD r 4 (pos 0))
+      → (c && fitAlong R t rs) ≡ (a && fitAlong R K l)
+  fit-line R a b c qs K t p l o e f h g y =
+      let x = line-here p l h f in
+      fit-again R p t (p ∷ t) l rs a b c refl (sym (x .2)) g (y ∙ ap (fitsRange R p) (sym (x .0))) ∙ fit-skip R a qs K (p ∷ t) l o e f
 
 -- ---- blocks
 
