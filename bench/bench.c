@@ -1,5 +1,5 @@
 /* Checks that the library and the plain C of baseline.c agree, then times both. Prints the best of several runs of each
-   entry, the ratio, also for strips, how cost grows with the size, and the peak resident size. */
+   entry, the ratio, also for strips and for a day of tiny sheets, how cost grows with the size, and the peak resident size. */
 #define _GNU_SOURCE
 #include "baseline.h"
 #include "tetrolet.h"
@@ -158,10 +158,15 @@ static void line(const char *name, double ours, const char *form, double theirs,
         printf("%-10s %9.3f   %-9s %9.3f   %5.2f   at most %.1f: %s\n", name, ours, form, theirs, ours / theirs, bar, ours / theirs <= bar ? "met" : "not met");
 }
 
+static void columns(void)
+{
+    printf("%-10s %9s   %-9s %9s   %5s\n", "entry", "library", "C form", "C", "ratio");
+}
+
 static void head(size_t height, size_t width, size_t levels)
 {
     printf("height %zu, width %zu, %zu levels, best of %d rounds, milliseconds\n", height, width, levels, RUNS);
-    printf("%-10s %9s   %-9s %9s   %5s\n", "entry", "library", "C form", "C", "ratio");
+    columns();
 }
 
 static double faster(struct times t)
@@ -180,6 +185,72 @@ static void strip(size_t height, size_t width, size_t levels)
     line("keep", t.keep, "buckets", t.base_keep, 0);
     line("write", t.write, "digits", t.digits, 0);
     line("read", t.read, "plain", t.base_read, 0);
+}
+
+#define SHEETS 20000
+#define PART 500
+
+enum kind { FEW, KEPT, NAMES };
+
+/* One tiny sheet, 4 by 4 with 1 level, the k-th of its kind, written to `text`; gives its length. FEW: 1 to 4 entries at any places, no two sheets alike (all
+   values of sheet k leave the rest k / 117 by 171, and its covering is k % 117 + 1). KEPT: a noisy image cut to a quota of 0 to 2. NAMES: a text whose
+   last line of names ends with another byte (refusal 9), so that nearly all of it is names. */
+static size_t tiny(enum kind kind, size_t k, uint8_t *text)
+{
+    const char *names = "height width levels\n4 4 1\nlevel row col cover\n1 0 0 1\nlevel band row col value ";
+    int64_t p[16] = { 0 }, w[16];
+    uint8_t c = (uint8_t)(k % 117 + 1);
+    size_t length = strlen(names), left;
+    if (kind == NAMES) {
+        memcpy(text, names, length);
+        return length;
+    }
+    if (kind == FEW)
+        for (size_t n = 1 + next() % 4; n > 0; n--) {
+            size_t row = next() % 4, col = next() % 4;
+            int64_t v = (int64_t)(1 + k / 117 + 171 * (next() % 46));
+            p[col * 4 + row] = (row > 1 || col > 1) && next() % 2 ? -v : v;
+        }
+    else {
+        make_image(4, 4, 0);
+        if (tetrolet_decompose(4, 4, 1, image, 16, p, 16, &c, 1, w, 16) != 0 || tetrolet_keep(4, 4, 1, p, 16, next() % 3, &left) != 0)
+            abort();
+    }
+    if (tetrolet_write(4, 4, 1, p, 16, &c, 1, text, 1024, &length) != 0)
+        abort();
+    return length;
+}
+
+/* A day of tiny sheets, one after the other in a buffer: nanoseconds for each read. The best of several rounds counts for each part of the day, the
+   two forms by turns. */
+static void day(enum kind kind, const char *name, double bar)
+{
+    static size_t at[SHEETS + 1];
+    uint8_t *text = buffer[0];
+    size_t h, w, l;
+    double best[2][SHEETS / PART] = { { 0 } }, total[2] = { 0 };
+    for (size_t k = 0; k < SHEETS; k++)
+        at[k + 1] = at[k] + tiny(kind, k, text + at[k]);
+    for (int run = 0; run < 3 * RUNS; run++)
+        for (size_t r = 0; r < SHEETS / PART; r++)
+            for (int form = 0; form < 2; form++) {
+                int64_t p[16];
+                uint8_t c;
+                uint32_t n = 0;
+                double start = now();
+                for (size_t k = r * PART; k < (r + 1) * PART; k++)
+                    n |= form ? base_read(text + at[k], at[k + 1] - at[k], p, 16, &c, 1, &h, &w, &l)
+                              : tetrolet_read(text + at[k], at[k + 1] - at[k], p, 16, &c, 1, &h, &w, &l);
+                double took = (now() - start) * 1e9 / SHEETS;
+                if (n != (kind == NAMES ? 9 : 0))
+                    abort();
+                if (best[form][r] == 0 || took < best[form][r])
+                    best[form][r] = took;
+            }
+    for (int form = 0; form < 2; form++)
+        for (size_t r = 0; r < SHEETS / PART; r++)
+            total[form] += best[form][r];
+    line(name, total[0], "plain", total[1], bar);
 }
 
 /* Peak resident size of a process of its own that decomposes and restores an image of 512 by 512 with 8 levels, in KiB. */
@@ -262,6 +333,12 @@ int main(int argc, char **argv)
 
     strip(512, 64, 5);
     strip(64, 512, 5);
+
+    printf("\na day of %d sheets, 4 by 4, 1 level, best of %d rounds, nanoseconds for each read\n", SHEETS, 3 * RUNS);
+    columns();
+    day(FEW, "tiny few", 1.2);
+    day(KEPT, "tiny kept", 1.2);
+    day(NAMES, "tiny names", 0);
 
     printf("\ngrowth with height and width, both the same, all levels, library, milliseconds (nanoseconds for each sample)\n");
     printf("%6s  %17s  %17s  %17s  %17s  %17s\n", "height", "decompose", "restore", "keep", "write", "read");

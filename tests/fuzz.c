@@ -4,6 +4,8 @@
 
    fuzz [CALLS [SEED]]
 
+   Before the random calls, some small sheets are read in every prefix, and with every byte changed to every other value.
+
    Each slice lent to the library stands flush against a page that may not be touched, before it or after it, so that a read or a
    store outside it ends the program. The two others work on heap blocks of exact length, the plain C under the address sanitizer. */
 #define _GNU_SOURCE
@@ -58,6 +60,7 @@ struct slice {
 static uint8_t *slots[SLOTS];
 static struct slice lent[SLOTS];
 static int lent_count;
+static int at_end; /* every slice ends where the page behind it begins */
 
 static void make_slots(void)
 {
@@ -79,7 +82,7 @@ static struct slice *lend(size_t len, size_t size)
     s->bytes = len * size;
     if (s->bytes > ROOM)
         abort();
-    s->lib = once_in(2) ? slots[lent_count] : slots[lent_count] + ROOM - s->bytes;
+    s->lib = !at_end && once_in(2) ? slots[lent_count] : slots[lent_count] + ROOM - s->bytes;
     s->base = malloc(s->bytes);
     s->plain = malloc(s->bytes);
     s->old = malloc(s->bytes);
@@ -556,6 +559,22 @@ static void call_write(struct tally *t)
                              length->base));
 }
 
+/* Reads the text into slices of these lengths. */
+static void read_text(struct tally *t, size_t area, size_t plane_len, size_t coverings_len)
+{
+    struct slice *sheet = lend(text_len, 1), *plane = lend(plane_len, 8), *coverings = lend(coverings_len, 1), *height = lend(1, sizeof(size_t)),
+                 *width = lend(1, sizeof(size_t)), *levels = lend(1, sizeof(size_t));
+    memcpy(sheet->base, text, text_len);
+    settle();
+    uint32_t a = tetrolet_read(sheet->lib, sheet->len, plane->lib, plane->len, coverings->lib, coverings->len, height->lib, width->lib,
+                               levels->lib);
+    if (asks_plain(area))
+        compare_plain(t, a, plain_read(sheet->plain, sheet->len, plane->plain, plane->len, coverings->plain, coverings->len, height->plain,
+                                       width->plain, levels->plain));
+    compare(t, a, base_read(sheet->base, sheet->len, plane->base, plane->len, coverings->base, coverings->len, height->base, width->base,
+                            levels->base));
+}
+
 static void call_read(struct tally *t)
 {
     struct frame f = make_frame();
@@ -572,17 +591,39 @@ static void call_read(struct tally *t)
     free(p);
     free(c);
     damage_some();
-    struct slice *sheet = lend(text_len, 1), *plane = lend(length_near(f.area), 8), *coverings = lend(length_near(f.blocks), 1),
-                 *height = lend(1, sizeof(size_t)), *width = lend(1, sizeof(size_t)), *levels = lend(1, sizeof(size_t));
-    memcpy(sheet->base, text, text_len);
-    settle();
-    uint32_t a = tetrolet_read(sheet->lib, sheet->len, plane->lib, plane->len, coverings->lib, coverings->len, height->lib, width->lib,
-                               levels->lib);
-    if (asks_plain(f.area))
-        compare_plain(t, a, plain_read(sheet->plain, sheet->len, plane->plain, plane->len, coverings->plain, coverings->len, height->plain,
-                                       width->plain, levels->plain));
-    compare(t, a, base_read(sheet->base, sheet->len, plane->base, plane->len, coverings->base, coverings->len, height->base, width->base,
-                            levels->base));
+    size_t plane_len = length_near(f.area);
+    read_text(t, f.area, plane_len, length_near(f.blocks));
+}
+
+/* A sheet with `entries` entries at places all over its plane, in every prefix, and with every byte changed to every other value. */
+static void read_each(struct tally *t, size_t height, size_t width, size_t levels, size_t entries)
+{
+    size_t area = height * width, blocks = tetrolet_blocks(height, width, levels), length;
+    int64_t p[256] = { 0 };
+    uint8_t c[64];
+    for (size_t k = 0; k < entries; k++) {
+        size_t i = k * area / entries;
+        int low = i % height < height >> levels && i / height < width >> levels;
+        p[i] = k % 2 && !low ? -(int64_t)(k * k + 1) : (int64_t)(k * k * k + 9);
+    }
+    for (size_t k = 0; k < blocks; k++)
+        c[k] = (uint8_t)(117 - 23 * k % 117);
+    if (area > 256 || blocks > 64 || base_write(BASE_DIGITS, height, width, levels, p, area, c, blocks, text, sizeof text, &length) != 0)
+        abort();
+    at_end = 1;
+    for (text_len = 0; text_len <= length; text_len++, call_number++) {
+        read_text(t, area, area, blocks);
+        drop();
+    }
+    text_len = length;
+    for (size_t at = 0; at < length; at++) {
+        uint8_t kept = text[at];
+        for (text[at] = (uint8_t)(kept + 1); text[at] != kept; text[at]++, call_number++) {
+            read_text(t, area, area, blocks);
+            drop();
+        }
+    }
+    at_end = 0;
 }
 
 static void call_usage(struct tally *t)
@@ -626,6 +667,13 @@ int main(int argc, char **argv)
         { call_usage, { "usage", 0, { 0 }, 0, 0, 0 } },
     };
     size_t count = sizeof entries / sizeof *entries;
+    struct tally each = { "read", 0, { 0 }, 0, 0, 0 };
+    entry = each.name;
+    read_each(&each, 4, 4, 1, 0);
+    read_each(&each, 4, 4, 1, 3);
+    read_each(&each, 4, 16, 1, 5);
+    read_each(&each, 16, 8, 2, 9);
+    printf("%llu texts near small sheets: %lu read, no difference\n", (unsigned long long)call_number, each.accepted);
     for (call_number = 0; call_number < calls; call_number++) {
         size_t k = below(count);
         entry = entries[k].tally.name;
