@@ -192,9 +192,9 @@ static void strip(size_t height, size_t width, size_t levels)
 
 enum kind { FEW, KEPT, NAMES };
 
-/* One tiny sheet, 4 by 4 with 1 level, the k-th of its kind, written to `text`; gives its length. FEW: 1 to 4 entries at any places, no two sheets alike (all
-   values of sheet k leave the rest k / 117 by 171, and its covering is k % 117 + 1). KEPT: a noisy image cut to a quota of 0 to 2. NAMES: a text whose
-   last line of names ends with another byte (refusal 9), so that nearly all of it is names. */
+/* One tiny sheet, 4 by 4 with 1 level, the k-th of its kind, written to `text`; gives its length. FEW: 1 to 4 entries at any places, no two sheets alike
+   (the covering is k % 117 + 1, and each value's size, less 1, leaves k / 117 when divided by 171). KEPT: a noisy image cut to a quota of 0 to 2. NAMES: a
+   text whose last line of names ends with another byte (refusal 9), so that nearly all of it is names. */
 static size_t tiny(enum kind kind, size_t k, uint8_t *text)
 {
     const char *names = "height width levels\n4 4 1\nlevel row col cover\n1 0 0 1\nlevel band row col value ";
