@@ -28,6 +28,7 @@ uint32_t base_write(int form, size_t height, size_t width, size_t levels, const 
 uint32_t base_read(const uint8_t *text, size_t text_len, int64_t *plane, size_t plane_len, uint8_t *coverings, size_t coverings_len,
                    size_t *height, size_t *width, size_t *levels);
 uint32_t base_usage(const uint8_t *coverings, size_t coverings_len, uint8_t *buffer, size_t buffer_len, size_t *length);
+uint32_t base_test_image(size_t height, size_t width, uint32_t start, uint16_t *samples, size_t samples_len);
 
 /* Cuts as base_keep does, but ranked by |W| alone. For the figures in pictures/README.md. */
 uint32_t base_keep_raw(size_t height, size_t width, size_t levels, int64_t *plane, size_t plane_len, uint64_t quota, size_t *left);

@@ -99,6 +99,10 @@ static void agree(size_t height, size_t width, size_t levels, int kind)
     b = base_restore(height, width, levels, plane[0], area, coverings[0], blocks, numerators[1], area, samples[1], area, scratch[1], area);
     check(a == 0 && b == 0 && !memcmp(numerators[0], numerators[1], bytes) && !memcmp(samples[0], samples[1], area * sizeof(uint16_t))
               && !memcmp(scratch[0], scratch[1], bytes), "restorations", height, width, levels);
+    uint32_t start = (uint32_t)next();
+    a = tetrolet_test_image(height, width, start, samples[0], area);
+    b = base_test_image(height, width, start, samples[1], area);
+    check(a == 0 && b == 0 && !memcmp(samples[0], samples[1], area * sizeof(uint16_t)), "test images", height, width, levels);
 }
 
 /* Takes the time of one call, in milliseconds, where it is the best so far. */
@@ -113,7 +117,8 @@ static void agree(size_t height, size_t width, size_t levels, int kind)
     } while (0)
 
 struct times {
-    double decompose, straight, shared, restore, base_restore, keep, base_keep, write, digits, printed, read, base_read, usage, base_usage;
+    double decompose, straight, shared, restore, base_restore, keep, base_keep, write, digits, printed, read, base_read, usage, base_usage, test,
+        base_test;
     double kept_write, kept_digits, kept_read, kept_base_read; /* of the plane that keep leaves */
 };
 
@@ -146,6 +151,8 @@ static struct times measure(size_t height, size_t width, size_t levels)
         TIME(t.read, tetrolet_read(text, length, q, area, d, blocks, &rows, &columns, &l));
         TIME(t.base_usage, base_usage(c, blocks, text, TETROLET_MAX_USAGE, &length));
         TIME(t.usage, tetrolet_usage(c, blocks, text, TETROLET_MAX_USAGE, &length));
+        TIME(t.base_test, base_test_image(height, width, (uint32_t)run, samples[0], area));
+        TIME(t.test, tetrolet_test_image(height, width, (uint32_t)run, samples[0], area));
     }
     return t;
 }
@@ -330,6 +337,7 @@ int main(int argc, char **argv)
     line("write kept", t.kept_write, "digits", t.kept_digits, 0);
     line("read kept", t.kept_read, "plain", t.kept_base_read, 0);
     line("usage", t.usage, "one pass", t.base_usage, 0);
+    line("test image", t.test, "plain", t.base_test, 0);
 
     strip(512, 64, 5);
     strip(64, 512, 5);

@@ -1,4 +1,5 @@
-/* A caller in C: decomposes a small strip, keeps the best coefficients, writes the sheet, reads it back and restores it. */
+/* A caller in C: decomposes a small strip, keeps the best coefficients, writes the sheet, reads it back and restores it. Then what an installer runs:
+   a test image, made from a number, goes there and back. */
 #include "tetrolet.h"
 
 #include <inttypes.h>
@@ -54,5 +55,13 @@ int main(void)
     for (int k = 0; k < AREA; k++)
         distance += ((long)samples[k] - image[k]) * ((long)samples[k] - image[k]);
     printf("restored: squared distance %ld over %d samples\n", distance, AREA);
+
+    accepted("test image", tetrolet_test_image(HEIGHT, WIDTH, 0, image, AREA));
+    accepted("decompose", tetrolet_decompose(HEIGHT, WIDTH, LEVELS, image, AREA, plane, AREA, coverings, BLOCKS, scratch, AREA));
+    accepted("restore", tetrolet_restore(HEIGHT, WIDTH, LEVELS, plane, AREA, coverings, BLOCKS, numerators, AREA, samples, AREA, scratch, AREA));
+    int same = 0;
+    for (int k = 0; k < AREA; k++)
+        same += samples[k] == image[k];
+    printf("test image from 0: first sample %d; %d of %d samples restored\n", image[0], same, AREA);
     return 0;
 }

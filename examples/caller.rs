@@ -1,4 +1,5 @@
-// A caller in Rust: decomposes a small strip, keeps the best coefficients, writes the sheet, reads it back and restores it.
+// A caller in Rust: decomposes a small strip, keeps the best coefficients, writes the sheet, reads it back and restores it. Then what an installer runs: a
+// test image, made from a number, goes there and back.
 // The functions below wrap the C entries in slices, so that lengths and pointers cannot be mistaken.
 
 mod ffi {
@@ -62,6 +63,13 @@ mod ffi {
             height: *mut usize,
             width: *mut usize,
             levels: *mut usize,
+        ) -> u32;
+        pub fn tetrolet_test_image(
+            height: usize,
+            width: usize,
+            start: u32,
+            samples: *mut u16,
+            samples_len: usize,
         ) -> u32;
     }
 }
@@ -199,6 +207,13 @@ fn read(text: &[u8], plane: &mut [i64], coverings: &mut [u8]) -> Answer<(usize, 
     answer(n, (height, width, levels))
 }
 
+fn test_image(height: usize, width: usize, start: u32, samples: &mut [u16]) -> Answer<()> {
+    let n = unsafe {
+        ffi::tetrolet_test_image(height, width, start, samples.as_mut_ptr(), samples.len())
+    };
+    answer(n, ())
+}
+
 fn run() -> Answer<()> {
     const HEIGHT: usize = 8;
     const WIDTH: usize = 32;
@@ -261,6 +276,33 @@ fn run() -> Answer<()> {
         .map(|(a, b)| (*a as i64 - *b as i64).pow(2))
         .sum();
     println!("restored: squared distance {distance} over {AREA} samples");
+
+    let (mut plane, mut coverings) = (vec![0; AREA], vec![0; BLOCKS]);
+    test_image(HEIGHT, WIDTH, 0, &mut image)?;
+    decompose(
+        HEIGHT,
+        WIDTH,
+        LEVELS,
+        &image,
+        &mut plane,
+        &mut coverings,
+        &mut scratch,
+    )?;
+    restore(
+        HEIGHT,
+        WIDTH,
+        LEVELS,
+        &plane,
+        &coverings,
+        &mut numerators,
+        &mut samples,
+        &mut scratch,
+    )?;
+    let same = image.iter().zip(&samples).filter(|(a, b)| a == b).count();
+    println!(
+        "test image from 0: first sample {}; {same} of {AREA} samples restored",
+        image[0]
+    );
     Ok(())
 }
 

@@ -139,6 +139,15 @@ uint32_t tetrolet_read(const uint8_t *text, size_t text_len, int64_t *plane, siz
  */
 uint32_t tetrolet_usage(const uint8_t *coverings, size_t coverings_len, uint8_t *buffer, size_t buffer_len, size_t *length);
 
+/*
+ * Writes a test image: the same start gives the same samples on every site. A state s, at first the start, becomes
+ * (s * 1664525 + 1013904223) mod 2^32 for each sample, and the sample is the new s / 2^20, rounded down. From 0 the first is 966.
+ *   start      any number
+ *   samples    height * width samples, 0 to 4,095, written down columns
+ * Refusals: 1, 3.
+ */
+uint32_t tetrolet_test_image(size_t height, size_t width, uint32_t start, uint16_t *samples, size_t samples_len);
+
 #ifdef __cplusplus
 }
 #endif

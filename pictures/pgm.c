@@ -1,7 +1,8 @@
-/* Images in PGM files to sheets and back.
+/* Images in PGM files to sheets and back, and test images.
 
    pgm to-sheet LEVELS QUOTA <in.pgm >out.sheet    P2 or P5, maxval up to 4095, of a height and a width that the library accepts
    pgm to-pgm [MAXVAL]       <in.sheet >out.pgm    P5; MAXVAL, 4095 where it is not given, is that of the original
+   pgm test-image HEIGHT WIDTH START >out.pgm      P5, maxval 4095; START is 0 to 4294967295
 
    A refusal is printed as the cutter prints it: `refusal`, then the number, and the exit status is 1. A file that is no PGM file is 9;
    a maxval over 4095 is 4. Their order is that of the cutter: 9 on the header, 1, 2, 9 on all that follows, 4, 7. */
@@ -21,7 +22,8 @@ static int refuse(uint32_t number)
 
 static int use(void)
 {
-    fprintf(stderr, "use: pgm to-sheet LEVELS QUOTA <in.pgm >out.sheet\n     pgm to-pgm [MAXVAL] <in.sheet >out.pgm\n");
+    fprintf(stderr, "use: pgm to-sheet LEVELS QUOTA <in.pgm >out.sheet\n     pgm to-pgm [MAXVAL] <in.sheet >out.pgm\n"
+                    "     pgm test-image HEIGHT WIDTH START >out.pgm\n");
     return 2;
 }
 
@@ -125,14 +127,27 @@ static int to_pgm(unsigned maxval)
     return 0;
 }
 
+static int test_image(unsigned long long height, unsigned long long width, uint32_t start)
+{
+    size_t area = are_sides(height, width) ? height * width : 0;
+    uint32_t n = tetrolet_test_image(height, width, start, samples, area);
+    if (n != 0)
+        return refuse(n);
+    if (!pgm_write(stdout, samples, height, width, 4095))
+        return fail("cannot write");
+    return 0;
+}
+
 int main(int argc, char **argv)
 {
-    unsigned long long a = 0, b = 0;
+    unsigned long long a = 0, b = 0, c = 0;
     if (argc == 4 && !strcmp(argv[1], "to-sheet") && argument(argv[2], &a) && argument(argv[3], &b))
         return to_sheet(a, b);
     if (argc == 2 && !strcmp(argv[1], "to-pgm"))
         return to_pgm(4095);
     if (argc == 3 && !strcmp(argv[1], "to-pgm") && argument(argv[2], &a) && a >= 1 && a <= 4095)
         return to_pgm((unsigned)a);
+    if (argc == 5 && !strcmp(argv[1], "test-image") && argument(argv[2], &a) && argument(argv[3], &b) && argument(argv[4], &c) && c <= UINT32_MAX)
+        return test_image(a, b, (uint32_t)c);
     return use();
 }

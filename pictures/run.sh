@@ -1,6 +1,7 @@
 #!/usr/bin/env bash
 # Builds the picture programs; makes the synthetic veneer and the picture of what a quota leaves of it, and compares both with those
-# kept here; turns the veneer, and two strips of it, into a sheet and back. Needs a C compiler. With --built the library is taken as it stands.
+# kept here; turns the veneer, and two strips of it, into a sheet and back; makes a test image from a number, the one that every site has.
+# Needs a C compiler. With --built the library is taken as it stands.
 set -eu
 cd "$(dirname "$0")/.."
 mkdir -p target/pictures
@@ -34,3 +35,9 @@ for strip in '64 256 5' '512 4 1'; do
     target/pictures/pgm to-sheet $levels $whole <target/pictures/strip.pgm | target/pictures/pgm to-pgm | cmp - target/pictures/strip.pgm
     echo "so does $whole for a strip of height $height and width $width with $levels levels"
 done
+
+# `cksum` of the test image of 512 by 512 from 0, worked out without the library.
+target/pictures/pgm test-image 512 512 0 >target/pictures/test.pgm
+[ "$(cksum <target/pictures/test.pgm)" = '4122849855 524304' ]
+target/pictures/pgm to-sheet 8 $((512 * 512 - 4)) <target/pictures/test.pgm | target/pictures/pgm to-pgm | cmp - target/pictures/test.pgm
+echo "target/pictures/test.pgm: the test image of 512 by 512 from 0, with the checksum that every site has; the whole quota gives it back"

@@ -9,7 +9,7 @@ import ctypes, json, os, re, sys
 
 root = os.path.dirname(os.path.dirname(os.path.abspath(__file__)))
 lib = ctypes.CDLL(os.path.join(root, "target", "libtetrolet.so"))
-TYPES = {"i64": ctypes.c_int64, "u64": ctypes.c_uint64, "u16": ctypes.c_uint16, "u8": ctypes.c_uint8, "size": ctypes.c_size_t}
+TYPES = {"i64": ctypes.c_int64, "u64": ctypes.c_uint64, "u32": ctypes.c_uint32, "u16": ctypes.c_uint16, "u8": ctypes.c_uint8, "size": ctypes.c_size_t}
 RUBBISH = 0x5A5A
 
 
@@ -128,6 +128,7 @@ ENTRIES = {
     "write": ("tetrolet_write", FRAME + [PLANE, COVERS, Text("tray", "u8", of_text), Given("length")]),
     "read": ("tetrolet_read", [Slice("text", "u8"), Slice("plane", "i64", of_sheet_area), Slice("covers", "u8", of_sheet_blocks), Given("height"), Given("width"), Given("levels")]),
     "usage": ("tetrolet_usage", [COVERS, Text("tray", "u8", of_text), Given("length")]),
+    "test_load": ("tetrolet_test_image", FRAME[:2] + [Number("start", "u32"), Slice("samples", "u16", of_area)]),
 }
 
 

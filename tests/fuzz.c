@@ -645,6 +645,19 @@ static void call_usage(struct tally *t)
     compare(t, a, b);
 }
 
+static void call_test_image(struct tally *t)
+{
+    static const uint32_t starts[] = { 0, 1, (uint32_t)1 << 31, UINT32_MAX };
+    struct frame f = make_frame();
+    count_strip(t, f);
+    uint32_t start = once_in(3) ? starts[below(sizeof starts / sizeof *starts)] : (uint32_t)(next() >> 32);
+    struct slice *samples = lend(length_near(f.area), 2);
+    settle();
+    uint32_t a = tetrolet_test_image(f.height, f.width, start, samples->lib, samples->len);
+    compare_plain(t, a, plain_test_image(f.height, f.width, start, samples->plain, samples->len));
+    compare(t, a, base_test_image(f.height, f.width, start, samples->base, samples->len));
+}
+
 int main(int argc, char **argv)
 {
     uint64_t calls = argc > 1 ? strtoull(argv[1], NULL, 10) : 1000000;
@@ -665,6 +678,7 @@ int main(int argc, char **argv)
         { call_write, { "write", 0, { 0 }, 0, 0, 0 } },
         { call_read, { "read", 0, { 0 }, 0, 0, 0 } },
         { call_usage, { "usage", 0, { 0 }, 0, 0, 0 } },
+        { call_test_image, { "test image", 0, { 0 }, 0, 0, 0 } },
     };
     size_t count = sizeof entries / sizeof *entries;
     struct tally each = { "read", 0, { 0 }, 0, 0, 0 };

@@ -1,7 +1,6 @@
 // The entries for callers in C, C++ and Rust: numbers and slices only, each answer as its refusal number, 0 where the call is accepted. A slice passes as a
 // pointer and a count of its elements. The contracts are those of the entries below; include/tetrolet.h has the declarations. Two wrong answers that the
 // contracts rule out besides: height and width in each other's place; and a number that a refused call sets to 0.
-ghost use mathlib.Core.Path.{_≡_};
 ghost use Rattle.refusals.specs.Refusal.{afterCall};
 ghost use Rattle.sheet.specs.Write.{WriteAnswered};
 ghost use Rattle.sheet.specs.Read.{ReadAnswered};
@@ -10,6 +9,7 @@ ghost use Rattle.keeping.specs.Entries.{Kept, Cut};
 ghost use Rattle.c_api.specs.Told.{Told};
 ghost use Rattle.coverings.specs.Entry.{WordAnswered};
 ghost use Rattle.coder.specs.Entries.{Decomposed, Restored};
+ghost use Rattle.generator.specs.Generator.{Generated};
 use refusals::Counted;
 use sheet::Reading;
 
@@ -169,4 +169,17 @@ pub extern "C" fn tetrolet_threshold(
         }
         Counted::Refused(r) => refusals::number(r) as u32,
     }
+}
+
+// Writes the test image of a start.
+#[no_mangle]
+pub extern "C" fn tetrolet_test_image(
+    height: usize,
+    width: usize,
+    start: u32,
+    samples: &mut [u16],
+) -> u32
+    ensures { λ n. ⌜ Generated height width start (now (samples .entry)) (now (samples .exit)) n ⌝ }
+{
+    refusals::code(generator::test_image(height, width, start, samples))
 }

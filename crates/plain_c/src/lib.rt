@@ -130,3 +130,13 @@ pub extern "C" fn plain_read(
 pub extern "C" fn plain_usage(coverings: &[u8], buffer: &mut [u8], length: &mut usize) -> u32 {
     told(plain_text::writing::usage(coverings, buffer), length)
 }
+
+#[no_mangle]
+pub extern "C" fn plain_test_image(
+    height: usize,
+    width: usize,
+    start: u32,
+    samples: &mut [u16],
+) -> u32 {
+    plain::generated::test_image(height, width, start, samples)
+}

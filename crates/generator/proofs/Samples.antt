@@ -1,0 +1,130 @@
+-- The samples of the generator, one by one, and its laws. Assumes nothing.
+use mathlib.Core.Path.{_≡_, refl, sym, ap, _∙_, subst}
+use mathlib.Core.Bool.{Bool, true, false, not, _&&_}
+use mathlib.Core.List.{List, [], _∷_}
+use Prim.Native.Nat.{ℕ, zero, suc, _+_, _*_, _%_, _^_, _<_, _≤_}
+use native.Mathlib.Nat.{mod-add-mod}
+use native.Mathlib.Numerals.{add-one}
+use native.Mathlib.Omega.{arith}
+use borrow.Author.Tests.{le-leb}
+use lib.Dec.{T}
+use lib.IntN.{ℤ, pos}
+use lib.ListN.{length, getD, set}
+use Rattle.refusals.specs.Refusal.{refuseIf}
+use Rattle.integers.specs.Lists.{every}
+use Rattle.integers.proofs.Half.{half, half-store}
+use Rattle.integers.proofs.Index.{index-bound}
+use Rattle.pyramid.specs.Sides.{isSides, isDepth, isPlane, isCoverings}
+use Rattle.pyramid.specs.Slices.{pictureOf}
+use Rattle.coder.specs.Claims.{Picture}
+use Rattle.coder.specs.Entries.{isSample, decomposeRefusal}
+use Rattle.generator.specs.Generator.{stepOf, sampleOf, samplesFrom}
+use Rattle.generator.specs.Laws.{stateAfter, GeneratorLaws}
+use Rattle.generator.proofs.Modular.{mod-mul-mod}
+
+-- ---- no sample is over 4,095
+
+sample-small : (s : ℕ) → sampleOf (stepOf s) ≤ 4095
+sample-small s = omega arith
+
+small : (n s : ℕ) → every isSample (samplesFrom n s) ≡ true
+unfolding samplesFrom
+small zero s = refl
+small (suc n) s = rw (le-leb _ 4095 (sample-small s)) (small n (stepOf s))
+
+-- ---- the document's example, and those reckoned apart
+
+first : samplesFrom 1 0 ≡ 966 ∷ []
+unfolding samplesFrom
+first = refl
+
+from-one : samplesFrom 4 1 ≡ 968 ∷ 1512 ∷ 2065 ∷ 2887 ∷ []
+unfolding samplesFrom
+from-one = refl
+
+from-largest : samplesFrom 4 4294967295 ≡ 965 ∷ 769 ∷ 552 ∷ 2583 ∷ []
+unfolding samplesFrom
+from-largest = refl
+
+-- ---- a sample by its number
+
+-- the first step taken apart, and not the last
+later : (n s : ℕ) → stateAfter n (stepOf s) ≡ stateAfter (suc n) s
+unfolding stateAfter
+later zero s = refl
+later (suc n) s = ap stepOf (later n s)
+
+pub sample-at : (n s i : ℕ) → i < n → getD (samplesFrom n s) i 0 ≡ sampleOf (stateAfter (suc i) s)
+unfolding samplesFrom stateAfter
+sample-at zero s i l = absurd (omega arith)
+sample-at (suc n) s zero l = refl
+sample-at (suc n) s (suc i) l = sample-at n (stepOf s) i (omega arith) ∙ ap sampleOf (later (suc i) s)
+
+pub long : (n s : ℕ) → length (samplesFrom n s) ≡ n
+unfolding samplesFrom
+long zero s = refl
+long (suc n) s = ap suc (long n (stepOf s))
+
+-- the state before the first step, and after one step more
+pub at-start : (s : ℕ) → s ≡ stateAfter 0 s
+unfolding stateAfter
+at-start s = refl
+
+pub one-more : (i s start : ℕ) {t : ℕ} → s ≡ stateAfter i start → t ≡ stepOf s → t ≡ stateAfter (i + 1) start
+unfolding stateAfter
+one-more i s start e f = f ∙ ap stepOf e ∙ ap (λ (n : ℕ). stateAfter n start) (sym (add-one i))
+
+-- a store of the next sample behind those that were stored
+pub stored : (start i : ℕ) (old : List ℕ) {now : List ℕ} {v t : ℕ} → i < length old → now ≡ half (samplesFrom (length old) start) old i → t ≡ stateAfter (i + 1) start → v ≡ sampleOf t
+    → set now i v ≡ half (samplesFrom (length old) start) old (i + 1)
+stored start i old l e f g =
+    half-store (samplesFrom (length old) start) old i 0 e
+    (g ∙ ap sampleOf (f ∙ ap (λ (n : ℕ). stateAfter n start) (add-one i)) ∙ sym (sample-at (length old) start i l))
+    (long (length old) start) l
+
+columns : (h w s y x : ℕ) → y < h → x < w → pictureOf h (samplesFrom (w * h) s) y x ≡ pos (sampleOf (stateAfter (suc (x * h + y)) s))
+columns h w s y x a b = ap pos (sample-at (w * h) s (x * h + y) (index-bound x y w h b a))
+
+-- ---- kept modulo 2^32
+
+step-wraps : (s : ℕ) → stepOf (s % 2 ^ 32) ≡ stepOf s
+step-wraps s =
+    sym (mod-add-mod (s % 2 ^ 32 * 1664525) (2 ^ 32) 1013904223)
+    ∙ ap (λ (n : ℕ). (n + 1013904223) % 2 ^ 32) (mod-mul-mod s 1664525 (2 ^ 32))
+    ∙ mod-add-mod (s * 1664525) (2 ^ 32) 1013904223
+
+wraps : (n s : ℕ) → samplesFrom n (s % 2 ^ 32) ≡ samplesFrom n s
+unfolding samplesFrom
+wraps zero s = refl
+wraps (suc n) s = ap (λ (t : ℕ). sampleOf t ∷ samplesFrom n t) (step-wraps s)
+
+-- ---- what decompose asks
+
+-- checks 1 to 4 of which the last passes
+not-four : (a b c d : Bool) → d ≡ true → refuseIf (not a) 1 (refuseIf (not b) 2 (refuseIf (not c) 3 (refuseIf (not d) 4 0))) ≡ 4 → ⊥
+not-four false b c d e f = omega arith
+not-four true false c d e f = omega arith
+not-four true true false d e f = omega arith
+not-four true true true true e f = omega arith
+not-four true true true false e f = subst T (sym e) tt
+
+never-four : (h w R n s : ℕ) (plane scratch : List ℤ) (coverings : List ℕ) → decomposeRefusal h w R (samplesFrom n s) plane coverings scratch ≡ 4 → ⊥
+never-four h w R n s plane scratch coverings =
+    let framed = isPlane h w (samplesFrom n s) && (isPlane h w plane && (isCoverings R h w coverings && isPlane h w scratch)) in
+    not-four (isSides h w) (isDepth R h w) framed (every isSample (samplesFrom n s)) (small n s)
+
+picture : (h w R s : ℕ) → T (isSides h w) → T (isDepth R h w) → Picture h w R (samplesFrom (w * h) s)
+picture h w R s a b = record { issides = a; isdepth = b; long = long (w * h) s; small = subst T (sym (small (w * h) s)) tt }
+
+pub laws : GeneratorLaws
+laws = record {
+  first = first;
+  fromOne = from-one;
+  fromLargest = from-largest;
+  long = long;
+  columns = columns;
+  wraps = wraps;
+  small = small;
+  neverFour = never-four;
+  picture = picture;
+}

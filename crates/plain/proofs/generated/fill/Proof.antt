@@ -1,0 +1,52 @@
+-- `plain::generated::fill` is safe and ends. Assumes nothing.
+use mathlib.Core.Path.{_≡_}
+use Prim.Native.Nat.{_-_}
+use borrow.Author.Needs.{needs}
+use lib.ListN.{length}
+use Rattle.plain.proofs.generated.fill.Statement.{statement}
+use Rattle.plain.proofs.generated.fill.Tie as tie
+
+abbrev Inv-loop : tie.InvT-loop
+Inv-loop start samples₀ s₀ i₀ samples s i = length samples ≡ length samples₀
+
+abbrev μ-loop : tie.MeasureT-loop
+μ-loop start samples₀ s₀ i₀ samples s i = length samples₀ - i
+
+loop-holds : tie.Need-loop-holds Inv-loop μ-loop
+loop-holds c = search needs
+
+step-requires : tie.Need-step-requires Inv-loop μ-loop
+step-requires c κs = tt
+
+put-sample-requires : tie.Need-put-sample-requires Inv-loop μ-loop
+put-sample-requires c κs = tt
+
+add-i : tie.Need-add-i Inv-loop μ-loop
+add-i c = search needs
+
+loop-less : tie.Need-loop-less Inv-loop μ-loop
+loop-less c = search needs
+
+loop-again : tie.Need-loop-again Inv-loop μ-loop
+loop-again c = search needs
+
+same-length : tie.Need-same-length Inv-loop μ-loop
+same-length c = search needs
+
+returns : tie.Need-returns Inv-loop μ-loop
+returns c = search needs
+
+pub fill-spec : {M : Type 1} → statement M
+fill-spec =
+    tie.close
+    (tie.spec
+    Inv-loop
+    μ-loop
+    loop-holds
+    step-requires
+    put-sample-requires
+    add-i
+    loop-less
+    loop-again
+    same-length
+    returns)
