@@ -19,6 +19,10 @@ unfoldable pub samplesFrom : ℕ → ℕ → List ℕ
 samplesFrom zero s = []
 samplesFrom (suc n) s = sampleOf (stepOf s) ∷ samplesFrom n (stepOf s)
 
+-- "Samples fill the picture in column order." A slice holds a picture down its columns, so they go into it from its front.
+abbrev pub testImage : ℕ → ℕ → ℕ → List ℕ
+testImage height width start = samplesFrom (width * height) start
+
 -- "Checks are 1, then 3." The slice has a place for each of the picture's samples.
 abbrev pub imageRefusal : ℕ → ℕ → List ℕ → ℕ
 imageRefusal height width samples =
@@ -26,8 +30,7 @@ imageRefusal height width samples =
     (refuseIf (not (isPlane height width samples)) 3
     0)
 
--- n is the number that the call is answered with, 0 where it is accepted; samples′ is what the slice holds after the call. "Samples fill the picture in column order":
--- a picture is stored down columns, so its column order is the order of the slice (the law `columns` says it of rows and columns).
+-- n is the number that the call is answered with, 0 where it is accepted; samples′ is what the slice holds after the call.
 pub record Generated (height width start : ℕ) (samples samples′ : List ℕ) (n : ℕ) : Type 0 where
   pub number : n ≡ imageRefusal height width samples
-  pub image : samples′ ≡ afterCall n (samplesFrom (width * height) start) samples
+  pub image : samples′ ≡ afterCall n (testImage height width start) samples

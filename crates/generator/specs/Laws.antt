@@ -11,7 +11,7 @@ use Rattle.pyramid.specs.Sides.{isSides, isDepth}
 use Rattle.pyramid.specs.Slices.{pictureOf}
 use Rattle.coder.specs.Claims.{Picture}
 use Rattle.coder.specs.Entries.{isSample, decomposeRefusal}
-use Rattle.generator.specs.Generator.{stepOf, sampleOf, samplesFrom}
+use Rattle.generator.specs.Generator.{stepOf, sampleOf, testImage}
 
 -- The state after n steps from the start s.
 unfoldable pub stateAfter : ℕ → ℕ → ℕ
@@ -19,20 +19,20 @@ stateAfter zero s = s
 stateAfter (suc n) s = stepOf (stateAfter n s)
 
 pub record GeneratorLaws : Type 0 where
-  -- Document 02: "From 0 the first sample is 966."
-  pub first : samplesFrom 1 0 ≡ 966 ∷ []
-  -- Reckoned apart, with plain arithmetic: four samples from 1 and four from the largest start, so that another multiplier, increment, modulus or divisor shows.
-  pub fromOne : samplesFrom 4 1 ≡ 968 ∷ 1512 ∷ 2065 ∷ 2887 ∷ []
-  pub fromLargest : samplesFrom 4 4294967295 ≡ 965 ∷ 769 ∷ 552 ∷ 2583 ∷ []
-  -- There are as many as were asked for.
-  pub long : (n s : ℕ) → length (samplesFrom n s) ≡ n
-  -- "Samples fill the picture in column order": row y of column x has x columns of h samples and y samples before it; its own is that of the next state.
-  pub columns : (h w s y x : ℕ) → y < h → x < w → pictureOf h (samplesFrom (w * h) s) y x ≡ pos (sampleOf (stateAfter (suc (x * h + y)) s))
-  -- "Kept modulo 2^32": a start over 32 bits would give what its remainder gives.
-  pub wraps : (n s : ℕ) → samplesFrom n (s % 2 ^ 32) ≡ samplesFrom n s
+  -- Document 02: "From 0 the first sample is 966." It is the upper left one, whatever the height and the width.
+  pub first : (h w : ℕ) → 0 < h → 0 < w → pictureOf h (testImage h w 0) 0 0 ≡ pos 966
+  -- Whole pictures, from 1 and from the largest start, reckoned apart: another multiplier, increment, modulus or divisor would show in them.
+  pub fromOne : testImage 4 4 1 ≡ 968 ∷ 1512 ∷ 2065 ∷ 2887 ∷ 207 ∷ 1513 ∷ 3173 ∷ 2278 ∷ 67 ∷ 2618 ∷ 1025 ∷ 1730 ∷ 2419 ∷ 3428 ∷ 962 ∷ 4017 ∷ []
+  pub fromLargest : testImage 4 4 4294967295 ≡ 965 ∷ 769 ∷ 552 ∷ 2583 ∷ 2939 ∷ 3580 ∷ 3738 ∷ 2965 ∷ 4092 ∷ 2147 ∷ 1404 ∷ 216 ∷ 2609 ∷ 3822 ∷ 3188 ∷ 199 ∷ []
+  -- There are as many samples as the picture has.
+  pub long : (h w s : ℕ) → length (testImage h w s) ≡ w * h
+  -- "Samples fill the picture in column order": before row y of column x go x columns of h samples and y samples, and its own is that of the state after one step more.
+  pub columns : (h w s y x : ℕ) → y < h → x < w → pictureOf h (testImage h w s) y x ≡ pos (sampleOf (stateAfter (x * h + y + 1) s))
+  -- "Kept modulo 2^32": of a start that has more than 32 bits only the remainder would matter.
+  pub wraps : (h w s : ℕ) → testImage h w (s % 2 ^ 32) ≡ testImage h w s
   -- Every sample is at most 4,095, in the words of decompose's check 4.
-  pub small : (n s : ℕ) → every isSample (samplesFrom n s) ≡ true
-  -- So decompose never answers 4 to them, whatever else it is lent.
-  pub neverFour : (h w R n s : ℕ) (plane scratch : List ℤ) (coverings : List ℕ) → decomposeRefusal h w R (samplesFrom n s) plane coverings scratch ≡ 4 → ⊥
-  -- And a test image is a picture that document 01 accepts, for all levels of its height and width: the laws of the coder hold for it.
-  pub picture : (h w R s : ℕ) → T (isSides h w) → T (isDepth R h w) → Picture h w R (samplesFrom (w * h) s)
+  pub small : (h w s : ℕ) → every isSample (testImage h w s) ≡ true
+  -- So decompose never answers 4 to a test image, whatever it is told and lent besides.
+  pub neverFour : (h w s height width levels : ℕ) (plane scratch : List ℤ) (coverings : List ℕ) → decomposeRefusal height width levels (testImage h w s) plane coverings scratch ≡ 4 → ⊥
+  -- And it is a picture that document 01 accepts, for all levels of its height and width, so that the laws of the coder hold for it.
+  pub picture : (h w R s : ℕ) → T (isSides h w) → T (isDepth R h w) → Picture h w R (testImage h w s)
