@@ -1,6 +1,6 @@
-/* Random and damaged calls through the C interface, compared with the plain C of bench/baseline.c and, where the area is at most 256,
-   with the plain second implementation (crate plain_c): the answer, every slice and every number lent. A refused call must leave all
-   as it was. More than half of the calls have slices made for strips, as many tall ones as wide ones.
+/* Random and damaged calls through the C interface, compared with the plain C of bench/baseline.c and, where the area is at most 256
+   or the entry is a quick one, with the plain second implementation (crate plain_c): the answer, every slice and every number lent. A
+   refused call must leave all as it was. More than half of the calls have slices made for strips, as many tall ones as wide ones.
 
    fuzz [CALLS [SEED]]
 

@@ -6,7 +6,7 @@ use Prim.Native.Nat.{ℕ, zero, suc, _+_, _*_, _%_, _^_, _<_, _≤_}
 use native.Mathlib.Nat.{zero-mul, mod-add-mod}
 use native.Mathlib.Numerals.{add-one}
 use native.Mathlib.Omega.{arith}
-use borrow.Author.Tests.{le-leb}
+use borrow.Author.Tests.{le-leb, eq-eqb}
 use lib.Dec.{T}
 use lib.IntN.{ℤ, pos}
 use lib.ListN.{length, getD, set}
@@ -14,11 +14,12 @@ use Rattle.refusals.specs.Refusal.{refuseIf}
 use Rattle.integers.specs.Lists.{every}
 use Rattle.integers.proofs.Half.{half, half-store}
 use Rattle.integers.proofs.Index.{index-bound}
+use Rattle.integers.proofs.Tests.{is-true}
 use Rattle.pyramid.specs.Sides.{isSides, isDepth, isPlane, isCoverings}
 use Rattle.pyramid.specs.Slices.{pictureOf}
 use Rattle.coder.specs.Claims.{Picture}
 use Rattle.coder.specs.Entries.{isSample, decomposeRefusal}
-use Rattle.generator.specs.Generator.{stepOf, sampleOf, samplesFrom, testImage}
+use Rattle.generator.specs.Generator.{stepOf, sampleOf, samplesFrom, testImage, imageRefusal}
 use Rattle.generator.specs.Laws.{stateAfter, GeneratorLaws}
 use Rattle.generator.proofs.Modular.{mod-mul-mod}
 
@@ -119,8 +120,18 @@ never-four h w s height width levels plane scratch coverings =
 picture : (h w R s : ℕ) → T (isSides h w) → T (isDepth R h w) → Picture h w R (testImage h w s)
 picture h w R s a b = record { issides = a; isdepth = b; long = long (w * h) s; small = subst T (sym (small (w * h) s)) tt }
 
+-- ---- the checks
+
+accepts : (h w : ℕ) (samples : List ℕ) → T (isSides h w) → length samples ≡ w * h → imageRefusal h w samples ≡ 0
+accepts h w samples t e = simp (is-true (isSides h w) t, eq-eqb (length samples) (w * h) e)
+
+sides-first : (h w : ℕ) (samples : List ℕ) → isSides h w ≡ false → imageRefusal h w samples ≡ 1
+sides-first h w samples e = simp e
+
 pub laws : GeneratorLaws
 laws = record {
+  accepts = accepts;
+  sidesFirst = sides-first;
   first = first;
   fromOne = from-one;
   fromLargest = from-largest;

@@ -1,6 +1,6 @@
--- What is wanted of test images: the document's example, where each sample stands, and that decompose takes them. Assumes nothing.
+-- What is wanted of the test images of document 02, wish 4: which calls are accepted, its example, where each sample stands, and that decompose takes them. Assumes nothing.
 use mathlib.Core.Path.{_≡_}
-use mathlib.Core.Bool.{true}
+use mathlib.Core.Bool.{true, false}
 use mathlib.Core.List.{List, [], _∷_}
 use Prim.Native.Nat.{ℕ, zero, suc, _+_, _*_, _%_, _^_, _<_}
 use lib.Dec.{T}
@@ -11,7 +11,7 @@ use Rattle.pyramid.specs.Sides.{isSides, isDepth}
 use Rattle.pyramid.specs.Slices.{pictureOf}
 use Rattle.coder.specs.Claims.{Picture}
 use Rattle.coder.specs.Entries.{isSample, decomposeRefusal}
-use Rattle.generator.specs.Generator.{stepOf, sampleOf, testImage}
+use Rattle.generator.specs.Generator.{stepOf, sampleOf, testImage, imageRefusal}
 
 -- The state after n steps from the start s.
 unfoldable pub stateAfter : ℕ → ℕ → ℕ
@@ -19,7 +19,11 @@ stateAfter zero s = s
 stateAfter (suc n) s = stepOf (stateAfter n s)
 
 pub record GeneratorLaws : Type 0 where
-  -- Document 02: "From 0 the first sample is 966." It is the upper left one, whatever the height and the width.
+  -- A slice with a place for each sample of a picture is never refused.
+  pub accepts : (h w : ℕ) (samples : List ℕ) → T (isSides h w) → length samples ≡ w * h → imageRefusal h w samples ≡ 0
+  -- "Checks are 1, then 3": a bad height or width is 1, whatever the slice.
+  pub sidesFirst : (h w : ℕ) (samples : List ℕ) → isSides h w ≡ false → imageRefusal h w samples ≡ 1
+  -- "From 0 the first sample is 966." It is the upper left one, whatever the height and the width.
   pub first : (h w : ℕ) → 0 < h → 0 < w → pictureOf h (testImage h w 0) 0 0 ≡ pos 966
   -- Whole pictures, from 1 and from the largest start, reckoned apart: another multiplier, increment, modulus or divisor would show in them.
   pub fromOne : testImage 4 4 1 ≡ 968 ∷ 1512 ∷ 2065 ∷ 2887 ∷ 207 ∷ 1513 ∷ 3173 ∷ 2278 ∷ 67 ∷ 2618 ∷ 1025 ∷ 1730 ∷ 2419 ∷ 3428 ∷ 962 ∷ 4017 ∷ []
