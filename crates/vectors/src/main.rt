@@ -1,6 +1,6 @@
-// Compares the proved coder with the plain second implementation, which shares nothing with it, on many generated pictures and planes. A line for each
-// group: its name, how many cases, how many of them both accept, how many of each are strips, whose height is not their width, and whether the two agree
-// everywhere, in the answer and in all that stands in the slices after. Texts and words are compared by `vectors_text`.
+// Compares the proved coder with the plain second implementation, which shares nothing with it, on many generated pictures and planes, and the test images
+// of both. A line for each group: its name, how many cases, how many of them both accept, how many of each are strips, whose height is not their width,
+// and whether the two agree everywhere, in the answer and in all that stands in the slices after. Texts and words are compared by `vectors_text`.
 mod generated;
 mod marks;
 mod pictures;
