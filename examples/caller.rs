@@ -214,13 +214,50 @@ fn test_image(height: usize, width: usize, start: u32, samples: &mut [u16]) -> A
     answer(n, ())
 }
 
-fn run() -> Answer<()> {
-    const HEIGHT: usize = 8;
-    const WIDTH: usize = 32;
-    const LEVELS: usize = 2;
-    const AREA: usize = HEIGHT * WIDTH;
-    const BLOCKS: usize = 2 * 8 + 4;
+const HEIGHT: usize = 8;
+const WIDTH: usize = 32;
+const LEVELS: usize = 2;
+const AREA: usize = HEIGHT * WIDTH;
+const BLOCKS: usize = 2 * 8 + 4;
 
+// The plane and the coverings of an image.
+fn planed(image: &[u16]) -> Answer<(Vec<i64>, Vec<u8>)> {
+    let (mut plane, mut coverings, mut scratch) = (vec![0; AREA], vec![0; BLOCKS], vec![0; AREA]);
+    decompose(
+        HEIGHT,
+        WIDTH,
+        LEVELS,
+        image,
+        &mut plane,
+        &mut coverings,
+        &mut scratch,
+    )?;
+    Ok((plane, coverings))
+}
+
+// The samples of a plane and its coverings.
+fn restored(
+    height: usize,
+    width: usize,
+    levels: usize,
+    plane: &[i64],
+    coverings: &[u8],
+) -> Answer<Vec<u16>> {
+    let (mut numerators, mut samples, mut scratch) = (vec![0; AREA], vec![0; AREA], vec![0; AREA]);
+    restore(
+        height,
+        width,
+        levels,
+        plane,
+        coverings,
+        &mut numerators,
+        &mut samples,
+        &mut scratch,
+    )?;
+    Ok(samples)
+}
+
+fn run() -> Answer<()> {
     // A slope with a bright diagonal bar, stored down columns.
     let mut image = vec![0u16; AREA];
     for x in 0..WIDTH {
@@ -230,16 +267,7 @@ fn run() -> Answer<()> {
         }
     }
 
-    let (mut plane, mut coverings, mut scratch) = (vec![0; AREA], vec![0; BLOCKS], vec![0; AREA]);
-    decompose(
-        HEIGHT,
-        WIDTH,
-        LEVELS,
-        &image,
-        &mut plane,
-        &mut coverings,
-        &mut scratch,
-    )?;
+    let (mut plane, coverings) = planed(&image)?;
     let kinds = coverings
         .iter()
         .collect::<std::collections::BTreeSet<_>>()
@@ -247,29 +275,16 @@ fn run() -> Answer<()> {
     let entries = plane.iter().filter(|v| **v != 0).count();
     println!("decomposed height {HEIGHT}, width {WIDTH} with {LEVELS} levels: {BLOCKS} blocks, {kinds} different coverings, {entries} plane entries not zero");
 
-    let (height, width, levels, plane, coverings) = {
-        let left = keep(HEIGHT, WIDTH, LEVELS, &mut plane, 60)?;
-        println!("kept {left} tetrolet coefficients");
-        let mut sheet = vec![0; 32 * AREA];
-        let length = write(HEIGHT, WIDTH, LEVELS, &plane, &coverings, &mut sheet)?;
-        println!("wrote a sheet of {length} bytes");
-        let (mut plane, mut coverings) = (vec![0; AREA], vec![0; BLOCKS]);
-        let (height, width, levels) = read(&sheet[..length], &mut plane, &mut coverings)?;
-        println!("read it back: height {height}, width {width}, levels {levels}");
-        (height, width, levels, plane, coverings)
-    };
+    let left = keep(HEIGHT, WIDTH, LEVELS, &mut plane, 60)?;
+    println!("kept {left} tetrolet coefficients");
+    let mut sheet = vec![0; 32 * AREA];
+    let length = write(HEIGHT, WIDTH, LEVELS, &plane, &coverings, &mut sheet)?;
+    println!("wrote a sheet of {length} bytes");
+    let (mut plane, mut coverings) = (vec![0; AREA], vec![0; BLOCKS]);
+    let (height, width, levels) = read(&sheet[..length], &mut plane, &mut coverings)?;
+    println!("read it back: height {height}, width {width}, levels {levels}");
 
-    let (mut numerators, mut samples) = (vec![0; AREA], vec![0; AREA]);
-    restore(
-        height,
-        width,
-        levels,
-        &plane,
-        &coverings,
-        &mut numerators,
-        &mut samples,
-        &mut scratch,
-    )?;
+    let samples = restored(height, width, levels, &plane, &coverings)?;
     let distance: i64 = image
         .iter()
         .zip(&samples)
@@ -277,27 +292,9 @@ fn run() -> Answer<()> {
         .sum();
     println!("restored: squared distance {distance} over {AREA} samples");
 
-    let (mut plane, mut coverings) = (vec![0; AREA], vec![0; BLOCKS]);
     test_image(HEIGHT, WIDTH, 0, &mut image)?;
-    decompose(
-        HEIGHT,
-        WIDTH,
-        LEVELS,
-        &image,
-        &mut plane,
-        &mut coverings,
-        &mut scratch,
-    )?;
-    restore(
-        HEIGHT,
-        WIDTH,
-        LEVELS,
-        &plane,
-        &coverings,
-        &mut numerators,
-        &mut samples,
-        &mut scratch,
-    )?;
+    let (plane, coverings) = planed(&image)?;
+    let samples = restored(HEIGHT, WIDTH, LEVELS, &plane, &coverings)?;
     let same = image.iter().zip(&samples).filter(|(a, b)| a == b).count();
     println!(
         "test image from 0: first sample {}; {same} of {AREA} samples restored",

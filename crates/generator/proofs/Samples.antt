@@ -19,13 +19,13 @@ use Rattle.pyramid.specs.Sides.{isSides, isDepth, isPlane, isCoverings}
 use Rattle.pyramid.specs.Slices.{pictureOf}
 use Rattle.coder.specs.Claims.{Picture}
 use Rattle.coder.specs.Entries.{isSample, decomposeRefusal}
-use Rattle.generator.specs.Generator.{stepOf, sampleOf, samplesFrom, testImage, imageRefusal}
+use Rattle.generator.specs.Generator.{stepOf, outputOf, samplesFrom, testImage, imageRefusal}
 use Rattle.generator.specs.Laws.{stateAfter, GeneratorLaws}
 use Rattle.generator.proofs.Modular.{mod-mul-mod}
 
 -- ---- no sample is over 4,095
 
-sample-small : (s : ℕ) → sampleOf (stepOf s) ≤ 4095
+sample-small : (s : ℕ) → outputOf (stepOf s) ≤ 4095
 sample-small s = omega arith
 
 small : (n s : ℕ) → every isSample (samplesFrom n s) ≡ true
@@ -60,14 +60,14 @@ unfolding stateAfter
 later zero s = refl
 later (suc n) s = ap stepOf (later n s)
 
-numbered : (n s i : ℕ) → i < n → getD (samplesFrom n s) i 0 ≡ sampleOf (stateAfter (suc i) s)
+numbered : (n s i : ℕ) → i < n → getD (samplesFrom n s) i 0 ≡ outputOf (stateAfter (suc i) s)
 unfolding samplesFrom stateAfter
 numbered zero s i l = absurd (omega arith)
 numbered (suc n) s zero l = refl
-numbered (suc n) s (suc i) l = numbered n (stepOf s) i (omega arith) ∙ ap sampleOf (later (suc i) s)
+numbered (suc n) s (suc i) l = numbered n (stepOf s) i (omega arith) ∙ ap outputOf (later (suc i) s)
 
-sample-at : (n s i : ℕ) → i < n → getD (samplesFrom n s) i 0 ≡ sampleOf (stateAfter (i + 1) s)
-sample-at n s i l = numbered n s i l ∙ ap (λ (k : ℕ). sampleOf (stateAfter k s)) (sym (add-one i))
+sample-at : (n s i : ℕ) → i < n → getD (samplesFrom n s) i 0 ≡ outputOf (stateAfter (i + 1) s)
+sample-at n s i l = numbered n s i l ∙ ap (λ (k : ℕ). outputOf (stateAfter k s)) (sym (add-one i))
 
 pub long : (n s : ℕ) → length (samplesFrom n s) ≡ n
 unfolding samplesFrom
@@ -75,18 +75,18 @@ long zero s = refl
 long (suc n) s = ap suc (long n (stepOf s))
 
 -- a store of the next sample behind those that were stored
-pub stored : (start i : ℕ) (old : List ℕ) {now : List ℕ} {v t : ℕ} → i < length old → now ≡ half (samplesFrom (length old) start) old i → t ≡ stateAfter (i + 1) start → v ≡ sampleOf t
+pub stored : (start i : ℕ) (old : List ℕ) {now : List ℕ} {v t : ℕ} → i < length old → now ≡ half (samplesFrom (length old) start) old i → t ≡ stateAfter (i + 1) start → v ≡ outputOf t
     → set now i v ≡ half (samplesFrom (length old) start) old (i + 1)
 stored start i old l e f g =
-    half-store (samplesFrom (length old) start) old i 0 e (g ∙ ap sampleOf f ∙ sym (sample-at (length old) start i l)) (long (length old) start) l
+    half-store (samplesFrom (length old) start) old i 0 e (g ∙ ap outputOf f ∙ sym (sample-at (length old) start i l)) (long (length old) start) l
 
-columns : (h w s y x : ℕ) → y < h → x < w → pictureOf h (testImage h w s) y x ≡ pos (sampleOf (stateAfter (x * h + y + 1) s))
+columns : (h w s y x : ℕ) → y < h → x < w → pictureOf h (testImage h w s) y x ≡ pos (outputOf (stateAfter (x * h + y + 1) s))
 columns h w s y x a b = ap pos (sample-at (w * h) s (x * h + y) (index-bound x y w h b a))
 
 -- the first from 0, computed
 first : (h w : ℕ) → 0 < h → 0 < w → pictureOf h (testImage h w 0) 0 0 ≡ pos 966
 unfolding stateAfter
-first h w a b = columns h w 0 0 0 a b ∙ ap (λ (n : ℕ). pos (sampleOf (stateAfter (n + 0 + 1) 0))) (zero-mul h)
+first h w a b = columns h w 0 0 0 a b ∙ ap (λ (n : ℕ). pos (outputOf (stateAfter (n + 0 + 1) 0))) (zero-mul h)
 
 -- ---- kept modulo 2^32
 
@@ -99,7 +99,7 @@ step-wraps s =
 wraps : (n s : ℕ) → samplesFrom n (s % 2 ^ 32) ≡ samplesFrom n s
 unfolding samplesFrom
 wraps zero s = refl
-wraps (suc n) s = ap (λ (t : ℕ). sampleOf t ∷ samplesFrom n t) (step-wraps s)
+wraps (suc n) s = ap (λ (t : ℕ). outputOf t ∷ samplesFrom n t) (step-wraps s)
 
 -- ---- what decompose asks
 

@@ -10,14 +10,14 @@ use Rattle.pyramid.specs.Sides.{isSides, isPlane}
 abbrev pub stepOf : ℕ → ℕ
 stepOf s = (s * 1664525 + 1013904223) % 2 ^ 32
 
--- "The sample is s div 2^20 of the new s."
-abbrev pub sampleOf : ℕ → ℕ
-sampleOf s = s / 2 ^ 20
+-- "The sample is s div 2^20 of the new s." This is the generator's output for a state.
+abbrev pub outputOf : ℕ → ℕ
+outputOf s = s / 2 ^ 20
 
 -- n samples from the state s on.
 unfoldable pub samplesFrom : ℕ → ℕ → List ℕ
 samplesFrom zero s = []
-samplesFrom (suc n) s = sampleOf (stepOf s) ∷ samplesFrom n (stepOf s)
+samplesFrom (suc n) s = outputOf (stepOf s) ∷ samplesFrom n (stepOf s)
 
 -- "Samples fill the picture in column order." A slice holds a picture down its columns, so they go into it from its front.
 abbrev pub testImage : ℕ → ℕ → ℕ → List ℕ

@@ -11,7 +11,7 @@ use Rattle.pyramid.specs.Sides.{isSides, isDepth}
 use Rattle.pyramid.specs.Slices.{pictureOf}
 use Rattle.coder.specs.Claims.{Picture}
 use Rattle.coder.specs.Entries.{isSample, decomposeRefusal}
-use Rattle.generator.specs.Generator.{stepOf, sampleOf, testImage, imageRefusal}
+use Rattle.generator.specs.Generator.{stepOf, outputOf, testImage, imageRefusal}
 
 -- The state after n steps from the start s.
 unfoldable pub stateAfter : ℕ → ℕ → ℕ
@@ -31,7 +31,7 @@ pub record GeneratorLaws : Type 0 where
   -- There are as many samples as the picture has.
   pub long : (h w s : ℕ) → length (testImage h w s) ≡ w * h
   -- "Samples fill the picture in column order": before row y of column x go x columns of h samples and y samples, and its own is that of the state after one step more.
-  pub columns : (h w s y x : ℕ) → y < h → x < w → pictureOf h (testImage h w s) y x ≡ pos (sampleOf (stateAfter (x * h + y + 1) s))
+  pub columns : (h w s y x : ℕ) → y < h → x < w → pictureOf h (testImage h w s) y x ≡ pos (outputOf (stateAfter (x * h + y + 1) s))
   -- "Kept modulo 2^32": of a start that has more than 32 bits only the remainder would matter.
   pub wraps : (h w s : ℕ) → testImage h w (s % 2 ^ 32) ≡ testImage h w s
   -- Every sample is at most 4,095, in the words of decompose's check 4.

@@ -4,7 +4,7 @@
 ghost use mathlib.Core.Path.{_≡_};
 ghost use lib.ListN.{length};
 ghost use Rattle.refusals.specs.Refusal.{answerOf};
-ghost use Rattle.generator.specs.Generator.{stepOf, sampleOf, samplesFrom, imageRefusal, Generated};
+ghost use Rattle.generator.specs.Generator.{stepOf, outputOf, samplesFrom, imageRefusal, Generated};
 ghost use Rattle.generator.specs.Laws.{GeneratorLaws};
 use refusals::Answer;
 use refusals::Refusal;
@@ -20,7 +20,7 @@ fn next(s: u32) -> u32
 
 // The sample of a state: its upper 12 bits.
 fn sample(s: u32) -> u16
-    ensures { λ r. ⌜ r ≡ sampleOf s ⌝ }
+    ensures { λ r. ⌜ r ≡ outputOf s ⌝ }
 {
     (s / 1048576) as u16
 }
