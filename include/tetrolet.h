@@ -67,7 +67,8 @@ static inline size_t tetrolet_blocks(size_t height, size_t width, size_t levels)
 uint32_t tetrolet_word(uint8_t covering, uint8_t *word, size_t word_len);
 
 /*
- * Decomposes an image into its plane and its coverings.
+ * Decomposes an image into its plane and its coverings. A block takes the covering of least cost; of several, the one chosen most often in all
+ * earlier blocks of the image, those of the finer levels too; then the lowest number.
  *   samples    height * width samples, 0 to 4,095, read
  *   plane      height * width entries, written
  *   coverings  B numbers, 1 to 117, written

@@ -65,22 +65,15 @@ fn load(samples: &[u16], plane: &mut [i64]) {
     }
 }
 
-// The least cost; then the most often chosen in the blocks of this level before; then the lowest number.
-fn choose(
-    words: &[u8],
-    image: &[i64],
-    at: Corner,
-    coverings: &[u8],
-    start: usize,
-    end: usize,
-) -> u8 {
+// The least cost; then the most often chosen in the blocks before, those of the earlier levels too; then the lowest number.
+fn choose(words: &[u8], image: &[i64], at: Corner, coverings: &[u8], before: usize) -> u8 {
     let mut best: u8 = 1;
     let mut least = cost(words, 1, image, at);
-    let mut most = times_chosen(coverings, start, end, 1);
+    let mut most = times_chosen(coverings, before, 1);
     let mut covering: u8 = 2;
     while covering < 118 {
         let now = cost(words, covering, image, at);
-        let chosen = times_chosen(coverings, start, end, covering);
+        let chosen = times_chosen(coverings, before, covering);
         if now < least {
             best = covering;
             least = now;
@@ -196,16 +189,8 @@ fn split_block(
     n: usize,
 ) {
     let p = block_in_level(extent, level, n);
-    let start = blocks_before(extent, level);
-    let now = plus(start, n);
-    let covering = choose(
-        words,
-        image,
-        corner(extent.height, p),
-        coverings,
-        start,
-        now,
-    );
+    let now = plus(blocks_before(extent, level), n);
+    let covering = choose(words, image, corner(extent.height, p), coverings, now);
     put_byte(coverings, now, covering);
     split_pieces(words, covering, image, plane, extent, p);
 }

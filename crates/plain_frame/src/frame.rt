@@ -317,10 +317,10 @@ pub fn contents(extent: Extent, levels: usize, plane: &[i64], coverings: &[u8]) 
     0
 }
 
-// How often the places from `start` to before `end` hold the covering.
-pub fn times_chosen(coverings: &[u8], start: usize, end: usize, covering: u8) -> usize {
+// How often the first `end` places hold the covering.
+pub fn times_chosen(coverings: &[u8], end: usize, covering: u8) -> usize {
     let mut n: usize = 0;
-    let mut i = start;
+    let mut i: usize = 0;
     while i < end {
         if byte_at(coverings, i) == covering {
             n = plus(n, 1);

@@ -6,7 +6,7 @@ use mathlib.Core.Bool.{Bool, _&&_, _||_, cond}
 use mathlib.Core.List.{List, [], _∷_, _++_, map}
 use Prim.Native.Nat.{ℕ, zero, suc, _/_, _%_}
 use lib.Dec.{eqb, leb, ltb}
-use lib.ListN.{getD}
+use lib.ListN.{length, getD}
 use lib.IntN.{ℤ, pos, negℤ, natAbs, _*ℤ_}
 use lib.Signed.{shrZ}
 use Rattle.integers.specs.Sum.{Σℤ, Σℕ}
@@ -60,7 +60,7 @@ unfoldable pub publishedCost : List ℕ → (ℕ → ℤ) → ℕ
 publishedCost w v = Σℕ 3 (λ l. Σℕ 4 (λ p. natAbs (coefficient w v (suc l) p)))
 
 -- "we choose the covering such that the l1-norm becomes minimal"; "if the optimal covering is not unique, then we take the tiling that has already been
--- chosen most frequently in the previous blocks", those of this level: n goes before m.
+-- chosen most frequently in the previous blocks": n goes before m.
 abbrev pub publishedBeats : List ℕ → (ℕ → ℤ) → ℕ → ℕ → Bool
 publishedBeats earlier v n m =
     let new = publishedCost (wordOf n) v in
@@ -112,19 +112,24 @@ publishedLevel (suc (suc r)) h w cs A l = publishedLevel (suc r) (h / 2) (w / 2)
 abbrev pub publishedAt : ℕ → ℕ → (ℕ → ℕ) → Image → Place → ℤ
 publishedAt h w cs A p = publishedLevel (p .level) h w cs A (p .band) (p .row) (p .col)
 
--- The coverings of the first n blocks of a level, blocks in column order.
-unfoldable pub publishedTo : ℕ → Image → ℕ → List ℕ
-publishedTo h A zero = []
-publishedTo h A (suc n) =
-    let earlier = publishedTo h A n in
+-- One list holds the coverings of all blocks, and each block adds its own: here the first n blocks of a level, in column order. "The previous blocks" are all
+-- that the list holds, those of the levels before too (document 02, wish 5).
+unfoldable pub publishedTo : List ℕ → ℕ → Image → ℕ → List ℕ
+publishedTo previous h A zero = previous
+publishedTo previous h A (suc n) =
+    let earlier = publishedTo previous h A n in
     earlier ++ (publishedChoice earlier (blockOf A (n % (h / 4)) (n / (h / 4))) ∷ [])
 
--- "For each block we have to store the covering that has been chosen", level by level.
-unfoldable pub publishedCovers : ℕ → ℕ → ℕ → Image → List ℕ
-publishedCovers zero h w A = []
-publishedCovers (suc R) h w A =
-    let first = publishedTo h A (blocks h w) in
-    first ++ publishedCovers R (h / 2) (w / 2) (publishedBands h (listed first) A 0)
+-- "For each block we have to store the covering that has been chosen": the list after R more levels, level by level.
+unfoldable pub publishedFrom : List ℕ → ℕ → ℕ → ℕ → Image → List ℕ
+publishedFrom previous zero h w A = previous
+publishedFrom previous (suc R) h w A =
+    let chosen = publishedTo previous h A (blocks h w) in
+    publishedFrom chosen R (h / 2) (w / 2) (publishedBands h (after (length previous) (listed chosen)) A 0)
+
+-- At the start it is empty.
+abbrev pub publishedCovers : ℕ → ℕ → ℕ → Image → List ℕ
+publishedCovers R h w A = publishedFrom [] R h w A
 
 -- The absolute tetrolet coefficients Q, in plane order.
 abbrev pub sizes : ℕ → ℕ → ℕ → (Place → ℤ) → List ℕ

@@ -3,20 +3,22 @@ use mathlib.Core.Path.{_≡_, refl, sym, ap, _∙_}
 use Prim.Native.Nat.{ℕ, zero, suc, pred, _+_, _*_, _-_, _/_, _%_, _^_, _<_, _≤_}
 use native.Mathlib.Omega.{arith}
 use native.Mathlib.Nat.{one-mul}
-use lib.ListN.{length, getD, length-append}
+use lib.ListN.{length, length-append}
 use mathlib.Core.List.{List}
 use Rattle.integers.specs.Sum.{sq, total}
 use Rattle.pyramid.specs.Plane.{Fits, numerators, Numbers, allBlocks, halved}
 use Rattle.integers.specs.Lists.{tabulate}
 use Rattle.integers.proofs.Tabulate.{length-tabulate}
 use Rattle.pyramid.specs.Places.{Place, planePlaces, tetroletPlaces, blocksFrom, blockAt, at, sumOver}
+use Rattle.pyramid.specs.Slices.{pictureOf}
 use Rattle.pyramid.specs.Laws.{PyramidLaws, Places, PlaceLaws, Laws}
 use Rattle.pyramid.proofs.Pyramid.{numerators-sub, numerators-analyse}
 use Rattle.pyramid.proofs.Energy.{lowTotal, energy}
 use Rattle.pyramid.proofs.Ranges.{in-range}
 use Rattle.pyramid.proofs.Sides.{size-laws}
 use Rattle.pyramid.proofs.Bounds.{bounds, rounded, exactly}
-use Rattle.pyramid.proofs.Choose.{covers-length, covers-numbers, covers-least}
+use Rattle.pyramid.proofs.Choose.{covers-length, covers-numbers, covers-least, covers-settled}
+use Rattle.pyramid.proofs.Only.{covers-only}
 use Rattle.pyramid.proofs.Places.{All, places-inside}
 use Rattle.pyramid.proofs.Order.{numberIn, plane-inside, number-of, plane-count, entry-at}
 use Rattle.pyramid.proofs.Standing.{level, analyse-sub}
@@ -76,6 +78,8 @@ laws = record {
   lengths = covers-length;
   numbers = covers-numbers;
   least = covers-least;
+  settled = λ R h w f s. covers-settled R h w f (pictureOf h s);
+  only = λ R h w f s. covers-only R h w f (pictureOf h s);
   exactly = exactly;
   rounded = rounded;
   sizes = size-laws;

@@ -11,10 +11,11 @@ use Rattle.integers.specs.Sum.{sq, total}
 use Rattle.block.specs.Block.{forward}
 use Rattle.pyramid.specs.Plane.{Image, Fits, blocks, allBlocks, Numbers, halved, blockOf, wordAt, after, bandsOf, analyse, numerators, listed, covers}
 use Rattle.pyramid.specs.Places.{Place, noPlace, planePlaces, tetroletPlaces, blockPlaces, at, sumOver}
-use Rattle.pyramid.specs.Slices.{coversOf, planeOf, samplesOf, nearest}
+use Rattle.pyramid.specs.Slices.{pictureOf, coversOf, planeOf, samplesOf, nearest}
 use Rattle.pyramid.specs.Ranges.{inRange, InRange}
 use Rattle.pyramid.specs.Sides.{isSides, isDepth, Side}
 use Rattle.pyramid.specs.Least.{Least}
+use Rattle.pyramid.specs.Settled.{Settled}
 
 -- One level of an h by w image, with R levels after it. Document 01: "low upper left, W1 upper right, W2 lower left, W3 lower right"; "Label s goes to row s
 -- mod 2, column s div 2 of the block's 2 by 2 result, for low and each W", which "fills rows 2i and 2i+1, columns 2j and 2j+1 of its band".
@@ -83,6 +84,9 @@ pub record Laws : Type 0 where
   -- the coverings chosen are numbers of coverings, and the least at their blocks
   pub numbers : (R h w : ℕ) (A : Image) → Numbers (allBlocks R h w) (listed (covers R h w A))
   pub least : (R h w : ℕ) → Fits R h w → (A : Image) → Least R h w (listed (covers R h w A)) A
+  -- document 02, wish 5: the coverings that decomposing gives are settled by all those listed before them, and no other list of coverings is
+  pub settled : (R h w : ℕ) → Fits R h w → (s : List ℕ) → Settled R h w (coversOf R h w s) (pictureOf h s)
+  pub only : (R h w : ℕ) → Fits R h w → (s cs : List ℕ) → length cs ≡ allBlocks R h w → Numbers (allBlocks R h w) (listed cs) → Settled R h w cs (pictureOf h s) → cs ≡ coversOf R h w s
   -- restoring the plane that decomposing gives gives the picture back
   pub exactly : (R h w : ℕ) → Fits R h w → (s : List ℕ) → length s ≡ w * h → ((k : ℕ) → k < w * h → getD s k 0 ≤ 4095) → samplesOf R h w (coversOf R h w s) (planeOf R h w s) ≡ s
   -- rounding is to nearest, halves upward: of n = nearest R y, 2 y + 4 ^ R is at least 2 n 4 ^ R and below 2 (n + 1) 4 ^ R

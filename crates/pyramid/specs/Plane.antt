@@ -100,20 +100,33 @@ numerators zero h w cs P = P
 numerators (suc R) h w cs P =
     mergeOf h cs (withLow (numerators R (h / 2) (w / 2) (after (blocks h w) cs) P) (λ b y x. pos (4 ^ R) *ℤ band h w P b y x))
 
--- "Blocks run in column order." The coverings chosen for the first n blocks of an image; the earlier ones are those of this level.
-unfoldable pub chosenTo : ℕ → Image → ℕ → List ℕ
-chosenTo h A zero = []
-chosenTo h A (suc n) =
-    let earlier = chosenTo h A n in
-    earlier ++ (pick earlier (blockOf A (n % (h / 4)) (n / (h / 4))) ∷ [])
+-- A rule of choice: the covering of a block, from the coverings chosen earlier and the block's values.
+abbrev pub Chooser : Type 0
+Chooser = List ℕ → (ℕ → ℤ) → ℕ
+
+-- The same rule where the coverings `before` were chosen earlier still.
+abbrev pub following : List ℕ → Chooser → Chooser
+following before choose here v = choose (before ++ here) v
+
+-- "Blocks run in column order." The coverings chosen for the first n blocks of an image; the earlier ones are those of the blocks before.
+unfoldable pub chosenTo : Chooser → ℕ → Image → ℕ → List ℕ
+chosenTo choose h A zero = []
+chosenTo choose h A (suc n) =
+    let here = chosenTo choose h A n in
+    here ++ (choose here (blockOf A (n % (h / 4)) (n / (h / 4))) ∷ [])
 
 -- The coverings as a list gives them.
 abbrev pub listed : List ℕ → ℕ → ℕ
 listed l k = getD l k 0
 
--- "Coverings are listed by level": those of the first level, then those that its low-pass gives.
-unfoldable pub covers : ℕ → ℕ → ℕ → Image → List ℕ
-covers zero h w A = []
-covers (suc R) h w A =
-    let first = chosenTo h A (blocks h w) in
-    first ++ covers R (h / 2) (w / 2) (bandsOf h (listed first) A 0)
+-- "Coverings are listed by level": those of the next level, then those that its low-pass gives. Document 02: a tie is settled by "how often a covering was
+-- chosen in all earlier blocks of the picture, level 1 first". Behind the first d levels, whose coverings are `before`, by a rule for each level.
+unfoldable pub coversAfter : (ℕ → Chooser) → ℕ → List ℕ → ℕ → ℕ → ℕ → Image → List ℕ
+coversAfter rule d before zero h w A = []
+coversAfter rule d before (suc R) h w A =
+    let first = chosenTo (following before (rule (suc d))) h A (blocks h w) in
+    first ++ coversAfter rule (suc d) (before ++ first) R (h / 2) (w / 2) (bandsOf h (listed first) A 0)
+
+-- The coverings of a picture: `pick` is the rule of every level.
+abbrev pub covers : ℕ → ℕ → ℕ → Image → List ℕ
+covers R h w A = coversAfter (λ r. pick) 0 [] R h w A

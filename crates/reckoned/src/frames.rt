@@ -49,7 +49,7 @@ fn tell_frame(words: &[u8], k: Plane) {
         plane: k.plane,
         coverings: k.coverings,
         scratch: k.plane,
-        sample: 0,
+        picture: [0; 65],
     };
     let d = tell(true, b"decompose", pictures::decompose(words, p));
     end(tell_plane(d, words, k));

@@ -1,5 +1,5 @@
 // Runs the entries beside the plain second implementation, which shares nothing with them: first the examples of document 01's "Reckoned by hand" that
-// are not in the proved table, a usage list and a test image, then both sides of every limit of its table of refusals, by number. A line has what was asked, for each entry its name,
+// are not in the proved table, a usage list, a tie and a test image, then both sides of every limit of its table of refusals, by number. A line has what was asked, for each entry its name,
 // the number of its answer and that of the second implementation, 0 where the call is accepted, and whether the two agree in all that they answer and
 // leave in the slices. What is proved says that code and definition have the same limits; the stored output of this program says which. Texts that are
 // read are the part of `reckoned_text`.
@@ -26,6 +26,7 @@ fn examples(words: &[u8]) {
     values::quota(4, 4, 1, 16, 12);
     values::quota(4, 4, 1, 16, 13);
     lists::usage_order();
+    pictures::ties(words);
     generated::first();
 }
 

@@ -1,4 +1,5 @@
-// Decomposing a flat picture, by the coder and by the plain second implementation.
+// Decomposing a flat picture, or one of 8 by 8 whose second level has a tie, by the coder and by the plain second implementation.
+use cases::answers::outcome;
 use pairs::answers::Pair;
 use pairs::answers::numbered;
 use pairs::answers::put;
@@ -7,7 +8,7 @@ use pairs::front;
 use pairs::left::Left;
 use pairs::left::pair;
 
-// A call: height, width and levels, the lengths of its slices, and the value of every sample.
+// A call: height, width and levels, the lengths of its slices, and the samples, of which the first are lent.
 pub struct Picture {
     pub height: usize,
     pub width: usize,
@@ -16,11 +17,11 @@ pub struct Picture {
     pub plane: usize,
     pub coverings: usize,
     pub scratch: usize,
-    pub sample: u16,
+    pub picture: [u16; 65],
 }
 
 fn by_coder(k: Picture) -> Left {
-    let samples = [k.sample; 65];
+    let samples = k.picture;
     let mut plane = [7i64; 65];
     let mut coverings = [9u8; 6];
     let mut scratch = [-3i64; 65];
@@ -43,7 +44,7 @@ fn by_coder(k: Picture) -> Left {
 }
 
 fn by_plain(words: &[u8], k: Picture) -> Left {
-    let samples = [k.sample; 65];
+    let samples = k.picture;
     let mut plane = [7i64; 65];
     let mut coverings = [9u8; 6];
     let mut scratch = [-3i64; 65];
@@ -92,9 +93,98 @@ pub fn flat(
         plane: plane,
         coverings: coverings,
         scratch: scratch,
-        sample: sample,
+        picture: [sample; 65],
     };
     tell_one(b"decompose", decompose(words, k));
+}
+
+// Document 02, wish 5: a tie is settled by "how often a covering was chosen in all earlier blocks of the picture, level 1 first". Each column is 10 0 0 10
+// 10 0 0 10. At level 1 all four blocks take covering 105; at level 2 it ties with covering 1, and has been chosen four times.
+pub fn ties(words: &[u8]) {
+    put(b"height ", 8);
+    put(b"width ", 8);
+    put(b"levels ", 2);
+    let k = Picture {
+        height: 8,
+        width: 8,
+        levels: 2,
+        samples: 64,
+        plane: 64,
+        coverings: 5,
+        scratch: 64,
+        picture: [
+            10,
+            0,
+            0,
+            10,
+            10,
+            0,
+            0,
+            10,
+            10,
+            0,
+            0,
+            10,
+            10,
+            0,
+            0,
+            10,
+            10,
+            0,
+            0,
+            10,
+            10,
+            0,
+            0,
+            10,
+            10,
+            0,
+            0,
+            10,
+            10,
+            0,
+            0,
+            10,
+            10,
+            0,
+            0,
+            10,
+            10,
+            0,
+            0,
+            10,
+            10,
+            0,
+            0,
+            10,
+            10,
+            0,
+            0,
+            10,
+            10,
+            0,
+            0,
+            10,
+            10,
+            0,
+            0,
+            10,
+            10,
+            0,
+            0,
+            10,
+            10,
+            0,
+            0,
+            10,
+            0,
+        ],
+    };
+    tell_one(b"decompose", decompose(words, k));
+    let left = by_coder(k);
+    let mut buffer = [b'?'; 64];
+    let list = outcome(sheet::usage(front::bytes(&left.coverings, 5), &mut buffer));
+    io::write_all(1, front::bytes(&buffer, list.a));
 }
 
 // Every slice of its exact length, and each with one place less and one more.

@@ -1,7 +1,7 @@
 -- `analysis::forward_block` meets its contract. Assumes nothing.
-use mathlib.Core.Path.{_≡_, subst⁻¹, _∙_, ap}
+use mathlib.Core.Path.{subst⁻¹, _∙_, ap}
 use mathlib.Core.List.{List}
-use Prim.Native.Nat.{ℕ, _+_, _*_, _<_, _^_}
+use Prim.Native.Nat.{ℕ, _+_, _<_, _^_}
 use native.Mathlib.Omega.{arith}
 use lib.ListN.{length, getD}
 use borrow.Author.Needs.{needs}
@@ -10,6 +10,7 @@ use Rattle.slices.specs.Stores.{scatter}
 use Rattle.block.specs.Block.{pick}
 use Rattle.kernel.specs.Kernel.{at, Within, forwardOf}
 use Rattle.grid.specs.Grid.{bandPlace}
+use Rattle.pyramid.proofs.Choose.{pick-cong}
 use Rattle.analysis.proofs.Bandwise.{cells-inside, begins-inside, start-small, values-small, coded}
 use Rattle.analysis.proofs.forward_block.Statement.{statement}
 use Rattle.analysis.proofs.forward_block.Tie as tie
@@ -58,7 +59,7 @@ returns c =
     let results = c .before .before .before .before .forward .ensures in
     let begins = c .before .before .before .starts .ensures in
     let r = c .before .before .before .before .before .choose .result in
-    coded (s .pre .1 .0) (s .args .i) (s .args .j) (s .pre .1 .1) (s .pre .1 .2) (s .args .usage .counts) (s .args .image .now) r (s .args .out .now) _ (picked .0)
+    coded (s .pre .1 .0) (s .args .i) (s .args .j) (s .pre .1 .1) (s .pre .1 .2) pick pick-cong (s .args .usage .counts) (s .args .image .now) r (s .args .out .now) _ (picked .0)
     (λ earlier e. picked .1 earlier e ∙ ap (λ (l : List ℤ). pick earlier (at l)) v)
     (c .before .put-results .ensures ∙ λ t. scatter (bandPlace (s .args .height) (begins t)) (at ((results ∙ ap (forwardOf r) v) t)) 16 (s .args .out .now))
 

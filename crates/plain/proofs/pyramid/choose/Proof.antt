@@ -5,10 +5,10 @@ use Rattle.plain.proofs.pyramid.choose.Statement.{statement}
 use Rattle.plain.proofs.pyramid.choose.Tie as tie
 
 abbrev Inv-loop : tie.InvT-loop
-Inv-loop words image at coverings start end best₀ least₀ most₀ covering₀ best least most covering = Unit
+Inv-loop words image at coverings before best₀ least₀ most₀ covering₀ best least most covering = Unit
 
 abbrev μ-loop : tie.MeasureT-loop
-μ-loop words image at coverings start end best₀ least₀ most₀ covering₀ best least most covering = 118 - covering
+μ-loop words image at coverings before best₀ least₀ most₀ covering₀ best least most covering = 118 - covering
 
 cost-requires : tie.Need-cost-requires Inv-loop μ-loop
 cost-requires c κs = tt

@@ -5,10 +5,10 @@ use Rattle.plain_frame.proofs.frame.times_chosen.Statement.{statement}
 use Rattle.plain_frame.proofs.frame.times_chosen.Tie as tie
 
 abbrev Inv-loop : tie.InvT-loop
-Inv-loop coverings start end covering n₀ i₀ n i = Unit
+Inv-loop coverings end covering n₀ i₀ n i = Unit
 
 abbrev μ-loop : tie.MeasureT-loop
-μ-loop coverings start end covering n₀ i₀ n i = end - i
+μ-loop coverings end covering n₀ i₀ n i = end - i
 
 loop-holds : tie.Need-loop-holds Inv-loop μ-loop
 loop-holds c = search needs

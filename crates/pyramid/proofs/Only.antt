@@ -1,0 +1,108 @@
+-- A rule that is fixed at each block by the coverings listed before fixes the whole list: no other list of coverings is settled. Assumes nothing.
+use mathlib.Core.Path.{_≡_, refl, sym, ap, _∙_, subst, subst⁻¹}
+use mathlib.Core.List.{List, [], _∷_, _++_, append-assoc}
+use Prim.Native.Nat.{ℕ, zero, suc, _+_, _*_, _/_, _%_, _≤_, _<_}
+use native.Mathlib.Omega.{arith}
+use native.Mathlib.Nat.{mod-lt, div-lt-iff-lt-mul, div-add-mod'}
+use lib.IntN.{ℤ}
+use lib.ListN.{length, take, drop, length-append, length-drop, take-append-drop}
+use lib.Seq.{getD-append-add, getD-take, take-suc, take-append-add, length-take-le}
+use Rattle.coverings.specs.Words.{wordOf}
+use Rattle.coverings.specs.Rule.{Number}
+use Rattle.block.specs.Block.{costOf, shapesOf, countIn, pick}
+use Rattle.block.specs.Laws.{Wins}
+use Rattle.block.proofs.Pick.{pick-number, pick-wins}
+use Rattle.integers.proofs.Index.{index-bound}
+use Rattle.pyramid.specs.Plane.{Image, Fits, blocks, allBlocks, blockOf, after, bandsOf, Chooser, following, chosenTo, listed, coversAfter, covers, Numbers}
+use Rattle.pyramid.specs.Settled.{EachBlock, Settled}
+use Rattle.pyramid.proofs.Choose.{Reads, Saying, Ruled, each-map, bands-same, after-cong, pick-cong}
+
+-- the first n choices, where the covering of each block is the rule's
+module _ (choose : Chooser) (h w : ℕ) (A : Image) (cs : List ℕ) (long : blocks h w ≤ length cs)
+    (e : (i j : ℕ) → i < h / 4 → j < w / 4 → let n = j * (h / 4) + i in listed cs n ≡ choose (take n cs) (blockOf A i j)) where
+  level-only : (n : ℕ) → n ≤ blocks h w → take n cs ≡ chosenTo choose h A n
+  unfolding chosenTo
+  level-only zero l = refl
+  level-only (suc n) l = go (level-only n (omega arith))
+    where
+      some : (q n : ℕ) → suc n ≤ (w / 4) * q → 0 < q
+      some zero n l = absurd (omega arith)
+      some (suc q) n l = omega arith
+
+      at : (m : ℕ) → m ≡ n → listed cs m ≡ choose (take m cs) (blockOf A (n % (h / 4)) (n / (h / 4))) → listed cs n ≡ choose (take n cs) (blockOf A (n % (h / 4)) (n / (h / 4)))
+      at m g = subst (λ (z : ℕ). listed cs z ≡ choose (take z cs) (blockOf A (n % (h / 4)) (n / (h / 4)))) g
+
+      here : listed cs n ≡ choose (take n cs) (blockOf A (n % (h / 4)) (n / (h / 4)))
+      here = at (n / (h / 4) * (h / 4) + n % (h / 4)) (div-add-mod' n (h / 4)) (e (n % (h / 4)) (n / (h / 4)) (mod-lt n (some (h / 4) n l)) (div-lt-iff-lt-mul (some (h / 4) n l) .1 l))
+
+      go : take n cs ≡ chosenTo choose h A n → take (suc n) cs ≡ chosenTo choose h A (suc n)
+      go r = take-suc cs n 0 (omega arith) ∙ (λ t. r t ++ ((here ∙ λ i. choose (r i) (blockOf A (n % (h / 4)) (n / (h / 4)))) t ∷ []))
+
+-- a list each of whose coverings is the rule's after those before it is the rule's list
+pub ruled-only : (rule : ℕ → Chooser) → ((r : ℕ) → Reads (rule r)) → (d : ℕ) (before : List ℕ) (R h w : ℕ) → Fits R h w → (A : Image) (cs : List ℕ) → length cs ≡ allBlocks R h w
+    → EachBlock (Ruled rule) d (length before) R h w (before ++ cs) A → cs ≡ coversAfter rule d before R h w A
+unfolding coversAfter
+ruled-only rule reads d before zero h w f A [] long s = refl
+ruled-only rule reads d before zero h w f A (c ∷ cs) long s = absurd (omega arith)
+ruled-only rule reads d before (suc R) h w f A cs long s = go (ruled-only rule reads (suc d) (before ++ first) R (h / 2) (w / 2) (f .2) image rest)
+  where
+    choose : Chooser
+    choose = following before (rule (suc d))
+
+    first : List ℕ
+    first = take (blocks h w) cs
+
+    rest : List ℕ
+    rest = drop (blocks h w) cs
+
+    first-long : length first ≡ blocks h w
+    first-long = length-take-le (blocks h w) cs (omega arith)
+
+    first-is : first ≡ chosenTo choose h A (blocks h w)
+    first-is =
+        level-only choose h w A cs (omega arith)
+        (λ i j a b. let n = j * (h / 4) + i in sym (getD-append-add before cs n 0) ∙ s .0 i j a b ∙ ap (λ (z : List ℕ). rule (suc d) z (blockOf A i j)) (take-append-add before cs n))
+        (blocks h w) (omega arith)
+
+    image : Image
+    image = bandsOf h (after (length before) (listed (before ++ cs))) A 0
+
+    whole : before ++ cs ≡ (before ++ first) ++ rest
+    whole = ap (λ (z : List ℕ). before ++ z) (sym (take-append-drop (blocks h w) cs)) ∙ sym (append-assoc before first rest)
+
+    deeper : EachBlock (Ruled rule) (suc d) (length (before ++ first)) R (h / 2) (w / 2) ((before ++ first) ++ rest) image
+    deeper =
+        subst (λ (l : List ℕ). EachBlock (Ruled rule) (suc d) (length (before ++ first)) R (h / 2) (w / 2) l image) whole
+        (subst⁻¹ (λ (k : ℕ). EachBlock (Ruled rule) (suc d) k R (h / 2) (w / 2) (before ++ cs) image) (length-append before first ∙ ap (λ (n : ℕ). length before + n) first-long) (s .1))
+
+    go : (length rest ≡ allBlocks R (h / 2) (w / 2) → EachBlock (Ruled rule) (suc d) (length (before ++ first)) R (h / 2) (w / 2) ((before ++ first) ++ rest) image → rest ≡ coversAfter rule (suc d) (before ++ first) R (h / 2) (w / 2) image)
+        → cs ≡ coversAfter rule d before (suc R) h w A
+    go ih = sym (take-append-drop (blocks h w) cs) ∙ (λ t. first ++ rest-is t) ∙ (λ t. first-is t ++ coversAfter rule (suc d) (before ++ first-is t) R (h / 2) (w / 2) (bandsOf h (listed (first-is t)) A 0))
+      where
+        rest-is : rest ≡ coversAfter rule (suc d) (before ++ first) R (h / 2) (w / 2) (bandsOf h (listed first) A 0)
+        rest-is =
+            ih (length-drop (blocks h w) cs ∙ omega arith) deeper
+            ∙ after-cong rule reads (suc d) (before ++ first) R (h / 2) (w / 2) (f .2) image (bandsOf h (listed first) A 0)
+            (bands-same h w (f .0) (f .1) A (after (length before) (listed (before ++ cs))) (listed first) (λ k l. getD-append-add before cs k 0 ∙ sym (getD-take (blocks h w) cs k 0 l)) 0)
+
+-- the numbers beside what is said
+each-numbers : (S : Saying) (d k R h w : ℕ) (cs : List ℕ) (A : Image) → Numbers (k + allBlocks R h w) (listed cs) → EachBlock S d k R h w cs A → EachBlock (λ r earlier v c. Number c × S r earlier v c) d k R h w cs A
+each-numbers S d k zero h w cs A ns s = tt
+each-numbers S d k (suc R) h w cs A ns s = (
+  (λ i j a b. (ns (k + (j * (h / 4) + i)) (omega (arith, index-bound j i (w / 4) (h / 4) b a)), s .0 i j a b)),
+  each-numbers S (suc d) (k + blocks h w) R (h / 2) (w / 2) cs (bandsOf h (after k (listed cs)) A 0) (λ m l. ns m (omega arith)) (s .1),
+)
+
+-- of two coverings that win against each other both are one
+wins-once : (earlier : List ℕ) (v : ℕ → ℤ) (c n : ℕ) → Wins earlier v c n → Wins earlier v n c → c ≡ n
+wins-once earlier v c n a b =
+    let e : costOf (shapesOf (wordOf c)) v ≡ costOf (shapesOf (wordOf n)) v = omega (arith, a .lowest, b .lowest) in
+    let f : countIn c earlier ≡ countIn n earlier = omega (arith, a .often e, b .often (sym e)) in
+    omega (arith, a .first e f, b .first (sym e) (sym f))
+
+pub covers-only : (R h w : ℕ) → Fits R h w → (A : Image) (cs : List ℕ) → length cs ≡ allBlocks R h w → Numbers (allBlocks R h w) (listed cs) → Settled R h w cs A → cs ≡ covers R h w A
+covers-only R h w f A cs long ns s =
+    ruled-only (λ r. pick) (λ r. pick-cong) 0 [] R h w f A cs long
+    (each-map (λ r earlier v c. Number c × ((n : ℕ) → Number n → Wins earlier v c n)) (Ruled (λ r. pick))
+    (λ r earlier v c z. wins-once earlier v c (pick earlier v) (z .1 (pick earlier v) (pick-number earlier v)) (pick-wins earlier v c (z .0))) 0 0 R h w cs A
+    (each-numbers (λ r earlier v c. (n : ℕ) → Number n → Wins earlier v c n) 0 0 R h w cs A (λ m l. ns m (omega arith)) s))
