@@ -25,6 +25,10 @@ fn tell_good() {
         b"quota 12 of 12",
         b"height width levels quota\n4 4 1 12\nsamples\n1 2 3 4\n9 8 7 6\n0 0 0 4095\n5 5 5 5\n",
     );
+    show(
+        b"a tie at level 2",
+        b"height width levels quota\n8 8 2 0\nsamples\n10 10 10 10 10 10 10 10\n0 0 0 0 0 0 0 0\n0 0 0 0 0 0 0 0\n10 10 10 10 10 10 10 10\n10 10 10 10 10 10 10 10\n0 0 0 0 0 0 0 0\n0 0 0 0 0 0 0 0\n10 10 10 10 10 10 10 10\n",
+    );
 }
 
 // 9 on the header, before 1, 12 and 2.

@@ -108,7 +108,7 @@ Chooser = List ℕ → (ℕ → ℤ) → ℕ
 abbrev pub following : List ℕ → Chooser → Chooser
 following before choose here v = choose (before ++ here) v
 
--- "Blocks run in column order." The coverings chosen for the first n blocks of an image; the earlier ones are those of the blocks before.
+-- "Blocks run in column order." The coverings chosen for the first n blocks of an image, each after those of the blocks before it.
 unfoldable pub chosenTo : Chooser → ℕ → Image → ℕ → List ℕ
 chosenTo choose h A zero = []
 chosenTo choose h A (suc n) =
@@ -119,8 +119,8 @@ chosenTo choose h A (suc n) =
 abbrev pub listed : List ℕ → ℕ → ℕ
 listed l k = getD l k 0
 
--- "Coverings are listed by level": those of the next level, then those that its low-pass gives. Document 02: a tie is settled by "how often a covering was
--- chosen in all earlier blocks of the picture, level 1 first". Behind the first d levels, whose coverings are `before`, by a rule for each level.
+-- "Coverings are listed by level": those of the next level, then those that its low-pass gives. Document 02, wish 5: a tie is settled by "how often a covering
+-- was chosen in all earlier blocks of the picture, level 1 first". Behind the first d levels, whose coverings are `before`, by a rule for each level.
 unfoldable pub coversAfter : (ℕ → Chooser) → ℕ → List ℕ → ℕ → ℕ → ℕ → Image → List ℕ
 coversAfter rule d before zero h w A = []
 coversAfter rule d before (suc R) h w A =
