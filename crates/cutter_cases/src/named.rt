@@ -27,7 +27,7 @@ fn tell_good() {
     );
     show(
         b"a tie at level 2",
-        b"height width levels quota\n8 8 2 0\nsamples\n10 10 10 10 10 10 10 10\n0 0 0 0 0 0 0 0\n0 0 0 0 0 0 0 0\n10 10 10 10 10 10 10 10\n10 10 10 10 10 10 10 10\n0 0 0 0 0 0 0 0\n0 0 0 0 0 0 0 0\n10 10 10 10 10 10 10 10\n",
+        b"height width levels quota\n8 8 2 0\nsamples\n1 1 0 0 0 0 0 0\n0 0 0 0 0 0 0 0\n0 0 0 0 0 0 0 0\n0 0 0 0 0 0 0 0\n0 0 0 0 0 0 0 0\n0 0 0 0 0 0 0 0\n0 0 0 0 0 0 0 0\n0 0 0 0 0 0 0 0\n",
     );
 }
 

@@ -1,5 +1,6 @@
 // Decomposing a flat picture, or one of 8 by 8 whose second level has a tie, by the coder and by the plain second implementation.
 use cases::answers::outcome;
+use cases::safe::put_sample;
 use pairs::answers::Pair;
 use pairs::answers::numbered;
 use pairs::answers::put;
@@ -98,12 +99,16 @@ pub fn flat(
     tell_one(b"decompose", decompose(words, k));
 }
 
-// Document 02, wish 5: a tie is settled by "how often a covering was chosen in all earlier blocks of the picture, level 1 first". Each column is 10 0 0 10
-// 10 0 0 10. At level 1 all four blocks take covering 105; at level 2 it ties with covering 1, and has been chosen four times.
+// Document 02, wish 5: a tie is settled by "how often a covering was chosen in all earlier blocks of the picture, level 1 first". The first two samples of the
+// first row are 1, all others 0. The first block takes covering 24; in the three others, which are flat, and at level 2, where one entry is not 0, all coverings
+// tie, and 24 has been chosen before.
 pub fn ties(words: &[u8]) {
     put(b"height ", 8);
     put(b"width ", 8);
     put(b"levels ", 2);
+    let mut picture = [0u16; 65];
+    put_sample(&mut picture, 0, 1);
+    put_sample(&mut picture, 8, 1);
     let k = Picture {
         height: 8,
         width: 8,
@@ -112,73 +117,7 @@ pub fn ties(words: &[u8]) {
         plane: 64,
         coverings: 5,
         scratch: 64,
-        picture: [
-            10,
-            0,
-            0,
-            10,
-            10,
-            0,
-            0,
-            10,
-            10,
-            0,
-            0,
-            10,
-            10,
-            0,
-            0,
-            10,
-            10,
-            0,
-            0,
-            10,
-            10,
-            0,
-            0,
-            10,
-            10,
-            0,
-            0,
-            10,
-            10,
-            0,
-            0,
-            10,
-            10,
-            0,
-            0,
-            10,
-            10,
-            0,
-            0,
-            10,
-            10,
-            0,
-            0,
-            10,
-            10,
-            0,
-            0,
-            10,
-            10,
-            0,
-            0,
-            10,
-            10,
-            0,
-            0,
-            10,
-            10,
-            0,
-            0,
-            10,
-            10,
-            0,
-            0,
-            10,
-            0,
-        ],
+        picture: picture,
     };
     tell_one(b"decompose", decompose(words, k));
     let left = by_coder(k);
