@@ -1,7 +1,8 @@
 -- The published transform, document 000: the Haar matrix with its factor 1/2, the cost of a covering, the choice, the reshape, and the levels. The paper's
 -- numbers have halves. Here the picture is counted in units so small that every half is a whole number: of R levels, the picture times 2 ^ R in units of
 -- 1 / 2 ^ R. That no half is ever rounded is the law `Exact` of Laws.antt. What the paper leaves open is document 01's: the numbers of the coverings, the
--- last rule of ties, and which of several best labellings is taken (`labelsOf`). Assumes nothing.
+-- last rule of ties, and which of several best labellings is taken (`labelsOf`); and document 02's: that previous blocks are those of the whole picture.
+-- Assumes nothing.
 use mathlib.Core.Bool.{Bool, _&&_, _||_, cond}
 use mathlib.Core.List.{List, [], _∷_, _++_, map}
 use Prim.Native.Nat.{ℕ, zero, suc, _/_, _%_}
