@@ -2,7 +2,7 @@
 use mathlib.Core.Path.{_≡_, refl, sym, ap, _∙_, subst, subst⁻¹, fun-ext}
 use mathlib.Core.List.{List, [], _++_, map, append-assoc, append-nil}
 use Prim.Native.Nat.{ℕ, suc, _+_, _*_, _/_, _^_, _<_, _≤_}
-use native.Mathlib.Nat.{pow-succ', pow-le-pow-right, mul-le-mul-left, mul-le-mul-right, le-trans}
+use native.Mathlib.Nat.{zero-add, add-assoc, pow-succ', pow-le-pow-right, mul-le-mul-left, mul-le-mul-right, le-trans}
 use native.Mathlib.Omega.{arith}
 use lib.IntN.{ℤ, pos, natAbs}
 use lib.ListN.{length, getD, take, List·getD-map, List·getD-append}
@@ -32,10 +32,7 @@ pub record Worked (R H W : ℕ) (cs : ℕ → ℕ) (A : Image) (plane : List ℤ
   pub same : (y x : ℕ) → y < H → x < W → finish left tall wide (after first cs) (imageOf H plane) y x ≡ finish R H W cs A y x
 
 again : (cs : ℕ → ℕ) (k n : ℕ) → after n (after k cs) ≡ after (k + n) cs
-again cs k n = fun-ext (λ m. ap cs (there m))
-  where
-    there : (m : ℕ) → k + (n + m) ≡ k + n + m
-    there m = omega arith
+again cs k n = fun-ext (λ m. ap cs (sym (add-assoc k n m)))
 
 pub worked-start : (R H W : ℕ) (cs : ℕ → ℕ) (A : Image) (plane : List ℤ) → Fits R H W → imageOf H plane ≡ A → Worked R H W cs A plane 0 H W 0 R
 worked-start R H W cs A plane f e = record {
@@ -44,11 +41,8 @@ worked-start R H W cs A plane f e = record {
   inside = omega arith;
   within = omega arith;
   rest = omega arith;
-  same = λ y x k l. (λ t. finish R H W (λ m. cs (none m t)) (e t) y x);
+  same = λ y x k l. (λ t. finish R H W (λ m. cs (zero-add m t)) (e t) y x);
 }
-  where
-    none : (m : ℕ) → 0 + m ≡ m
-    none m = omega arith
 
 -- the level's bands go back into the plane
 module _ (R H W : ℕ) (cs : ℕ → ℕ) (A : Image) (plane : List ℤ) (done tall wide first left : ℕ) (d : Worked R H W cs A plane done tall wide first (suc left)) (out : List ℤ)

@@ -1,7 +1,8 @@
--- The choice of a covering: no cutting of the block into four shapes costs less. Assumes nothing.
+-- The choice of a covering: no cutting of the block into four shapes costs less, it reads the sixteen values, and only one covering wins against all.
+-- Assumes nothing.
 use mathlib.Core.Path.{_≡_, refl, sym, ap, _∙_, subst}
 use mathlib.Core.Logic.{_⊎_, inl, inr, _↔_}
-use mathlib.Core.Bool.{Bool, true, false, not, cond, _&&_}
+use mathlib.Core.Bool.{Bool, true, false, cond, _&&_, _||_}
 use mathlib.Core.List.{List, [], _∷_, _++_}
 use Prim.Native.Nat.{ℕ, zero, suc, _+_, _*_, _/_, _%_, _≤_, _<_}
 use native.Mathlib.Omega.{arith}
@@ -219,3 +220,32 @@ pub pick-least : (earlier : List ℕ) (v : ℕ → ℤ) (shape : ℕ → ℕ →
 pick-least earlier v shape f =
     let c = covering-cost shape f v in
     le-trans (whole earlier v .wins (c .0) (c .1 .0) (c .1 .1) .lowest) (c .2)
+
+-- the choice reads the sixteen values
+pick-to-cong : (n : ℕ) (earlier : List ℕ) (v u : ℕ → ℤ) → ((k : ℕ) → k < 16 → v k ≡ u k) → pickTo n earlier v ≡ pickTo n earlier u
+unfolding pickTo
+pick-to-cong zero earlier v u e = refl
+pick-to-cong (suc n) earlier v u e = (λ t. choose (pick-to-cong n earlier v u e t) v) ∙ ap (λ (b : Bool). cond b (suc (suc n)) (pickTo n earlier u)) (beats-cong (suc (suc n)) (pickTo n earlier u))
+  where
+    choose : ℕ → (ℕ → ℤ) → ℕ
+    choose m v = cond (beats earlier v (suc (suc n)) m) (suc (suc n)) m
+
+    cost : (ℕ → ℤ) → ℕ → ℕ
+    cost v m = costOf (shapesOf (wordOf m)) v
+
+    same : (m : ℕ) → cost v m ≡ cost u m
+    same m = cost-cong (shapesOf (wordOf m)) v u e
+
+    beats-cong : (a b : ℕ) → beats earlier v a b ≡ beats earlier u a b
+    beats-cong a b = λ t. ltb (same a t) (same b t) || (eqb (same a t) (same b t) && ltb (countIn b earlier) (countIn a earlier))
+
+pub pick-cong : (earlier : List ℕ) (v u : ℕ → ℤ) → ((k : ℕ) → k < 16 → v k ≡ u k) → pick earlier v ≡ pick earlier u
+unfolding pick
+pick-cong earlier v u e = pick-to-cong 116 earlier v u e
+
+-- of two coverings that win against each other both are one
+pub wins-once : (earlier : List ℕ) (v : ℕ → ℤ) (c n : ℕ) → Wins earlier v c n → Wins earlier v n c → c ≡ n
+wins-once earlier v c n a b =
+    let e : costOf (shapesOf (wordOf c)) v ≡ costOf (shapesOf (wordOf n)) v = omega (arith, a .lowest, b .lowest) in
+    let f : countIn c earlier ≡ countIn n earlier = omega (arith, a .often e, b .often (sym e)) in
+    omega (arith, a .first e f, b .first (sym e) (sym f))

@@ -3,19 +3,17 @@ use mathlib.Core.Path.{_≡_, refl, sym, ap, _∙_, subst, subst⁻¹}
 use mathlib.Core.List.{List, [], _∷_, _++_, append-assoc}
 use Prim.Native.Nat.{ℕ, zero, suc, _+_, _*_, _/_, _%_, _≤_, _<_}
 use native.Mathlib.Omega.{arith}
-use native.Mathlib.Nat.{mod-lt, div-lt-iff-lt-mul, div-add-mod'}
-use lib.IntN.{ℤ}
+use native.Mathlib.Nat.{div-add-mod'}
 use lib.ListN.{length, take, drop, length-append, length-drop, take-append-drop}
 use lib.Seq.{getD-append-add, getD-take, take-suc, take-append-add, length-take-le}
-use Rattle.coverings.specs.Words.{wordOf}
 use Rattle.coverings.specs.Rule.{Number}
-use Rattle.block.specs.Block.{costOf, shapesOf, countIn, pick}
+use Rattle.block.specs.Block.{pick}
 use Rattle.block.specs.Laws.{Wins}
-use Rattle.block.proofs.Pick.{pick-number, pick-wins}
-use Rattle.integers.proofs.Index.{index-bound}
+use Rattle.block.proofs.Pick.{pick-number, pick-wins, pick-cong, wins-once}
+use Rattle.integers.proofs.Index.{index-bound, index-place}
 use Rattle.pyramid.specs.Plane.{Image, Fits, blocks, allBlocks, blockOf, after, bandsOf, Chooser, following, chosenTo, listed, coversAfter, covers, Numbers}
 use Rattle.pyramid.specs.Settled.{EachBlock, Settled}
-use Rattle.pyramid.proofs.Choose.{Reads, Saying, Ruled, each-map, bands-same, after-cong, pick-cong}
+use Rattle.pyramid.proofs.Choose.{Reads, Saying, Ruled, each-map, bands-same, after-cong}
 
 -- the first n choices, where the covering of each block is the rule's
 module _ (choose : Chooser) (h w : ℕ) (A : Image) (cs : List ℕ) (long : blocks h w ≤ length cs)
@@ -25,15 +23,11 @@ module _ (choose : Chooser) (h w : ℕ) (A : Image) (cs : List ℕ) (long : bloc
   level-only zero l = refl
   level-only (suc n) l = go (level-only n (omega arith))
     where
-      some : (q n : ℕ) → suc n ≤ (w / 4) * q → 0 < q
-      some zero n l = absurd (omega arith)
-      some (suc q) n l = omega arith
-
       at : (m : ℕ) → m ≡ n → listed cs m ≡ choose (take m cs) (blockOf A (n % (h / 4)) (n / (h / 4))) → listed cs n ≡ choose (take n cs) (blockOf A (n % (h / 4)) (n / (h / 4)))
       at m g = subst (λ (z : ℕ). listed cs z ≡ choose (take z cs) (blockOf A (n % (h / 4)) (n / (h / 4)))) g
 
       here : listed cs n ≡ choose (take n cs) (blockOf A (n % (h / 4)) (n / (h / 4)))
-      here = at (n / (h / 4) * (h / 4) + n % (h / 4)) (div-add-mod' n (h / 4)) (e (n % (h / 4)) (n / (h / 4)) (mod-lt n (some (h / 4) n l)) (div-lt-iff-lt-mul (some (h / 4) n l) .1 l))
+      here = at (n / (h / 4) * (h / 4) + n % (h / 4)) (div-add-mod' n (h / 4)) (e (n % (h / 4)) (n / (h / 4)) (index-place (h / 4) (w / 4) n l .0) (index-place (h / 4) (w / 4) n l .1))
 
       go : take n cs ≡ chosenTo choose h A n → take (suc n) cs ≡ chosenTo choose h A (suc n)
       go r = take-suc cs n 0 (omega arith) ∙ (λ t. r t ++ ((here ∙ λ i. choose (r i) (blockOf A (n % (h / 4)) (n / (h / 4)))) t ∷ []))
@@ -92,13 +86,6 @@ each-numbers S d k (suc R) h w cs A ns s = (
   (λ i j a b. (ns (k + (j * (h / 4) + i)) (omega (arith, index-bound j i (w / 4) (h / 4) b a)), s .0 i j a b)),
   each-numbers S (suc d) (k + blocks h w) R (h / 2) (w / 2) cs (bandsOf h (after k (listed cs)) A 0) (λ m l. ns m (omega arith)) (s .1),
 )
-
--- of two coverings that win against each other both are one
-wins-once : (earlier : List ℕ) (v : ℕ → ℤ) (c n : ℕ) → Wins earlier v c n → Wins earlier v n c → c ≡ n
-wins-once earlier v c n a b =
-    let e : costOf (shapesOf (wordOf c)) v ≡ costOf (shapesOf (wordOf n)) v = omega (arith, a .lowest, b .lowest) in
-    let f : countIn c earlier ≡ countIn n earlier = omega (arith, a .often e, b .often (sym e)) in
-    omega (arith, a .first e f, b .first (sym e) (sym f))
 
 pub covers-only : (R h w : ℕ) → Fits R h w → (A : Image) (cs : List ℕ) → length cs ≡ allBlocks R h w → Numbers (allBlocks R h w) (listed cs) → Settled R h w cs A → cs ≡ covers R h w A
 covers-only R h w f A cs long ns s =

@@ -12,7 +12,7 @@ use Rattle.block.specs.Block.{pick}
 use Rattle.pyramid.specs.Plane.{Chooser, allBlocks}
 use Rattle.analysis.proofs.Bandwise.{blocks-few}
 use Rattle.analysis.proofs.Descend.{Descended, worked-region, worked-room, worked-few, worked-end, descend-start, descend-small, descend-step, descend-covers}
-use Rattle.pyramid.proofs.Choose.{pick-cong}
+use Rattle.block.proofs.Pick.{pick-cong}
 use Rattle.pyramid.proofs.Sides.{sized, sized-fits, side-small, levels-small}
 use Rattle.analysis.proofs.decompose_all.Statement.{statement}
 use Rattle.analysis.proofs.decompose_all.Tie as tie

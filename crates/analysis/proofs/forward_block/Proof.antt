@@ -10,7 +10,7 @@ use Rattle.slices.specs.Stores.{scatter}
 use Rattle.block.specs.Block.{pick}
 use Rattle.kernel.specs.Kernel.{at, Within, forwardOf}
 use Rattle.grid.specs.Grid.{bandPlace}
-use Rattle.pyramid.proofs.Choose.{pick-cong}
+use Rattle.block.proofs.Pick.{pick-cong}
 use Rattle.analysis.proofs.Bandwise.{cells-inside, begins-inside, start-small, values-small, coded}
 use Rattle.analysis.proofs.forward_block.Statement.{statement}
 use Rattle.analysis.proofs.forward_block.Tie as tie
