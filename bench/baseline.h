@@ -5,7 +5,7 @@
 #include <stddef.h>
 #include <stdint.h>
 
-/* How base_decompose finds the cost of a covering. */
+/* How base_decompose and base_decompose_within find the cost of a covering. */
 enum { BASE_STRAIGHT, /* all twelve W of each of the 117 coverings */
        BASE_SHARED }; /* the 89 placements once, four added for each covering */
 
@@ -18,6 +18,9 @@ void base_init(void);
 uint32_t base_word(uint8_t covering, uint8_t *word, size_t word_len);
 uint32_t base_decompose(int form, size_t height, size_t width, size_t levels, const uint16_t *samples, size_t samples_len, int64_t *plane,
                         size_t plane_len, uint8_t *coverings, size_t coverings_len, int64_t *scratch, size_t scratch_len);
+uint32_t base_decompose_within(int form, size_t height, size_t width, size_t levels, uint64_t tolerance, const uint16_t *samples,
+                               size_t samples_len, int64_t *plane, size_t plane_len, uint8_t *coverings, size_t coverings_len,
+                               int64_t *scratch, size_t scratch_len);
 uint32_t base_restore(size_t height, size_t width, size_t levels, const int64_t *plane, size_t plane_len, const uint8_t *coverings,
                       size_t coverings_len, int64_t *numerators, size_t numerators_len, uint16_t *samples, size_t samples_len,
                       int64_t *scratch, size_t scratch_len);

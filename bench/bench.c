@@ -13,6 +13,10 @@
 
 #define RUNS 21
 
+/* The tolerances of the rows: none, a small one, and the largest, with which nearly all coverings compete. */
+#define TOLERANCES 3
+static const uint64_t tolerances[TOLERANCES] = { 0, 16, 4095 };
+
 static uint64_t seed = 88172645463325252u;
 
 static uint64_t next(void)
@@ -68,9 +72,14 @@ static void agree(size_t height, size_t width, size_t levels, int kind)
     size_t area = height * width, blocks = tetrolet_blocks(height, width, levels), bytes = area * sizeof(int64_t);
     size_t left[2], length[2], h[2], w[2], l[2];
     uint64_t quota = next() % (area - (area >> 2 * levels) + 1), limit = next() % 64;
+    uint64_t tolerance = limit * limit; /* not a random number of its own, so that the images stay those of earlier runs */
     uint32_t a, b;
     make_image(height, width, kind);
     for (int form = 0; form < 2; form++) {
+        a = tetrolet_decompose_within(height, width, levels, tolerance, image, area, plane[0], area, coverings[0], blocks, scratch[0], area);
+        b = base_decompose_within(form, height, width, levels, tolerance, image, area, plane[1], area, coverings[1], blocks, scratch[1], area);
+        check(a == 0 && b == 0 && !memcmp(plane[0], plane[1], bytes) && !memcmp(coverings[0], coverings[1], blocks)
+                  && !memcmp(scratch[0], scratch[1], bytes), "decompositions with a tolerance", height, width, levels);
         a = tetrolet_decompose(height, width, levels, image, area, plane[0], area, coverings[0], blocks, scratch[0], area);
         b = base_decompose(form, height, width, levels, image, area, plane[1], area, coverings[1], blocks, scratch[1], area);
         check(a == 0 && b == 0 && !memcmp(plane[0], plane[1], bytes) && !memcmp(coverings[0], coverings[1], blocks)
@@ -117,8 +126,8 @@ static void agree(size_t height, size_t width, size_t levels, int kind)
     } while (0)
 
 struct times {
-    double decompose, straight, shared, restore, base_restore, keep, base_keep, write, digits, printed, read, base_read, usage, base_usage, test,
-        base_test;
+    double decompose, straight, shared, within[TOLERANCES], within_straight[TOLERANCES], within_shared[TOLERANCES];
+    double restore, base_restore, keep, base_keep, write, digits, printed, read, base_read, usage, base_usage, test, base_test;
     double kept_write, kept_digits, kept_read, kept_base_read; /* of the plane that keep leaves */
 };
 
@@ -131,6 +140,12 @@ static struct times measure(size_t height, size_t width, size_t levels)
     for (int run = 0; run < RUNS; run++) {
         int64_t *p = plane[0], *q = plane[1], *n = numerators[0], *w = scratch[0];
         uint8_t *c = coverings[0], *d = coverings[1], *text = buffer[0];
+        for (int k = 0; k < TOLERANCES; k++) {
+            uint64_t near = tolerances[k];
+            TIME(t.within_straight[k], base_decompose_within(BASE_STRAIGHT, height, width, levels, near, image, area, p, area, c, blocks, w, area));
+            TIME(t.within_shared[k], base_decompose_within(BASE_SHARED, height, width, levels, near, image, area, p, area, c, blocks, w, area));
+            TIME(t.within[k], tetrolet_decompose_within(height, width, levels, near, image, area, p, area, c, blocks, w, area));
+        }
         TIME(t.straight, base_decompose(BASE_STRAIGHT, height, width, levels, image, area, p, area, c, blocks, w, area));
         TIME(t.shared, base_decompose(BASE_SHARED, height, width, levels, image, area, p, area, c, blocks, w, area));
         TIME(t.decompose, tetrolet_decompose(height, width, levels, image, area, p, area, c, blocks, w, area));
@@ -160,14 +175,14 @@ static struct times measure(size_t height, size_t width, size_t levels)
 static void line(const char *name, double ours, const char *form, double theirs, double bar)
 {
     if (bar == 0)
-        printf("%-10s %9.3f   %-9s %9.3f   %5.2f\n", name, ours, form, theirs, ours / theirs);
+        printf("%-11s %9.3f   %-9s %9.3f   %5.2f\n", name, ours, form, theirs, ours / theirs);
     else
-        printf("%-10s %9.3f   %-9s %9.3f   %5.2f   at most %.1f: %s\n", name, ours, form, theirs, ours / theirs, bar, ours / theirs <= bar ? "met" : "not met");
+        printf("%-11s %9.3f   %-9s %9.3f   %5.2f   at most %.1f: %s\n", name, ours, form, theirs, ours / theirs, bar, ours / theirs <= bar ? "met" : "not met");
 }
 
 static void columns(void)
 {
-    printf("%-10s %9s   %-9s %9s   %5s\n", "entry", "library", "C form", "C", "ratio");
+    printf("%-11s %9s   %-9s %9s   %5s\n", "entry", "library", "C form", "C", "ratio");
 }
 
 static void head(size_t height, size_t width, size_t levels)
@@ -176,9 +191,9 @@ static void head(size_t height, size_t width, size_t levels)
     columns();
 }
 
-static double faster(struct times t)
+static double faster(double straight, double shared)
 {
-    return t.straight < t.shared ? t.straight : t.shared;
+    return straight < shared ? straight : shared;
 }
 
 /* The rows of a strip. The bars are those of 512 by 512, so it has none. */
@@ -187,7 +202,7 @@ static void strip(size_t height, size_t width, size_t levels)
     struct times t = measure(height, width, levels);
     printf("\n");
     head(height, width, levels);
-    line("decompose", t.decompose, "faster", faster(t), 0);
+    line("decompose", t.decompose, "faster", faster(t.straight, t.shared), 0);
     line("restore", t.restore, "plain", t.base_restore, 0);
     line("keep", t.keep, "buckets", t.base_keep, 0);
     line("write", t.write, "digits", t.digits, 0);
@@ -328,7 +343,12 @@ int main(int argc, char **argv)
     head(512, 512, 8);
     line("decompose", t.decompose, "straight", t.straight, 0);
     line("decompose", t.decompose, "shared", t.shared, 0);
-    line("decompose", t.decompose, "faster", faster(t), 1.3);
+    line("decompose", t.decompose, "faster", faster(t.straight, t.shared), 1.3);
+    for (int k = 0; k < TOLERANCES; k++) {
+        char name[32];
+        snprintf(name, sizeof name, "within %u", (unsigned)tolerances[k]);
+        line(name, t.within[k], "faster", faster(t.within_straight[k], t.within_shared[k]), 0);
+    }
     line("restore", t.restore, "plain", t.base_restore, 1.3);
     line("keep", t.keep, "buckets", t.base_keep, 1.5);
     line("write", t.write, "digits", t.digits, 1.5);

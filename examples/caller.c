@@ -1,12 +1,12 @@
-/* A caller in C: decomposes a small strip, keeps the best coefficients, writes the sheet, reads it back and restores it. Then what an installer runs:
-   a test image, made from a number, goes there and back. */
+/* A caller in C: decomposes a small strip, first with a tolerance and then without, to show how many different coverings a mill needs; keeps the best
+   coefficients, writes the sheet, reads it back and restores it. Then what an installer runs: a test image, made from a number, goes there and back. */
 #include "tetrolet.h"
 
 #include <inttypes.h>
 #include <stdio.h>
 #include <stdlib.h>
 
-enum { HEIGHT = 8, WIDTH = 32, LEVELS = 2, AREA = HEIGHT * WIDTH, BLOCKS = 2 * 8 + 4, QUOTA = 60 };
+enum { HEIGHT = 8, WIDTH = 32, LEVELS = 2, AREA = HEIGHT * WIDTH, BLOCKS = 2 * 8 + 4, QUOTA = 60, TOLERANCE = 16 };
 
 static void accepted(const char *what, uint32_t refusal)
 {
@@ -16,25 +16,35 @@ static void accepted(const char *what, uint32_t refusal)
     }
 }
 
+static int different(const uint8_t *coverings)
+{
+    int used[118] = { 0 }, kinds = 0;
+    for (int k = 0; k < BLOCKS; k++)
+        kinds += used[coverings[k]]++ == 0;
+    return kinds;
+}
+
 int main(void)
 {
     static uint16_t image[AREA], samples[AREA];
     static int64_t plane[AREA], numerators[AREA], scratch[AREA];
     static uint8_t coverings[BLOCKS];
 
-    /* A slope with a bright diagonal bar, stored down columns. */
+    /* A soft slope with a fine grain and a bright diagonal bar, stored down columns. */
     for (int x = 0; x < WIDTH; x++)
         for (int y = 0; y < HEIGHT; y++)
-            image[x * HEIGHT + y] = (uint16_t)(50 * x + 20 * y + (abs(x - 4 * y) < 4 ? 1500 : 0));
+            image[x * HEIGHT + y] = (uint16_t)(5 * x + 2 * y + (x * x + 3 * y * y) % 17 + (abs(x - 4 * y) < 4 ? 1500 : 0));
 
+    accepted("decompose within", tetrolet_decompose_within(HEIGHT, WIDTH, LEVELS, TOLERANCE, image, AREA, plane, AREA, coverings, BLOCKS, scratch,
+                                                           AREA));
+    int near_kinds = different(coverings);
     accepted("decompose", tetrolet_decompose(HEIGHT, WIDTH, LEVELS, image, AREA, plane, AREA, coverings, BLOCKS, scratch, AREA));
-    int used[118] = { 0 }, kinds = 0, entries = 0;
-    for (int k = 0; k < BLOCKS; k++)
-        kinds += used[coverings[k]]++ == 0;
+    int kinds = different(coverings), entries = 0;
     for (int k = 0; k < AREA; k++)
         entries += plane[k] != 0;
     printf("decomposed height %d, width %d with %d levels: %d blocks, %d different coverings, %d plane entries not zero\n", HEIGHT, WIDTH, LEVELS,
            BLOCKS, kinds, entries);
+    printf("different coverings used: %d with tolerance 0, %d with tolerance %d\n", kinds, near_kinds, TOLERANCE);
 
     size_t left = 0, length = 0, height = 0, width = 0, levels = 0;
     accepted("keep", tetrolet_keep(HEIGHT, WIDTH, LEVELS, plane, AREA, QUOTA, &left));

@@ -1,6 +1,8 @@
-// A caller in Rust: decomposes a small strip, keeps the best coefficients, writes the sheet, reads it back and restores it. Then what an installer runs: a
-// test image, made from a number, goes there and back.
+// A caller in Rust: decomposes a small strip, first with a tolerance and then without, to show how many different coverings a mill needs; keeps the best
+// coefficients, writes the sheet, reads it back and restores it. Then what an installer runs: a test image, made from a number, goes there and back.
 // The functions below wrap the C entries in slices, so that lengths and pointers cannot be mistaken.
+
+use std::collections::BTreeSet;
 
 mod ffi {
     extern "C" {
@@ -8,6 +10,20 @@ mod ffi {
             height: usize,
             width: usize,
             levels: usize,
+            samples: *const u16,
+            samples_len: usize,
+            plane: *mut i64,
+            plane_len: usize,
+            coverings: *mut u8,
+            coverings_len: usize,
+            scratch: *mut i64,
+            scratch_len: usize,
+        ) -> u32;
+        pub fn tetrolet_decompose_within(
+            height: usize,
+            width: usize,
+            levels: usize,
+            tolerance: u64,
             samples: *const u16,
             samples_len: usize,
             plane: *mut i64,
@@ -98,6 +114,35 @@ fn decompose(
             height,
             width,
             levels,
+            samples.as_ptr(),
+            samples.len(),
+            plane.as_mut_ptr(),
+            plane.len(),
+            coverings.as_mut_ptr(),
+            coverings.len(),
+            scratch.as_mut_ptr(),
+            scratch.len(),
+        )
+    };
+    answer(n, ())
+}
+
+fn decompose_within(
+    height: usize,
+    width: usize,
+    levels: usize,
+    tolerance: u64,
+    samples: &[u16],
+    plane: &mut [i64],
+    coverings: &mut [u8],
+    scratch: &mut [i64],
+) -> Answer<()> {
+    let n = unsafe {
+        ffi::tetrolet_decompose_within(
+            height,
+            width,
+            levels,
+            tolerance,
             samples.as_ptr(),
             samples.len(),
             plane.as_mut_ptr(),
@@ -219,6 +264,7 @@ const WIDTH: usize = 32;
 const LEVELS: usize = 2;
 const AREA: usize = HEIGHT * WIDTH;
 const BLOCKS: usize = 2 * 8 + 4;
+const TOLERANCE: u64 = 16;
 
 // The plane and the coverings of an image.
 fn planed(image: &[u16]) -> Answer<(Vec<i64>, Vec<u8>)> {
@@ -233,6 +279,26 @@ fn planed(image: &[u16]) -> Answer<(Vec<i64>, Vec<u8>)> {
         &mut scratch,
     )?;
     Ok((plane, coverings))
+}
+
+// The coverings of an image, with a tolerance.
+fn covered(image: &[u16], tolerance: u64) -> Answer<Vec<u8>> {
+    let (mut plane, mut coverings, mut scratch) = (vec![0; AREA], vec![0; BLOCKS], vec![0; AREA]);
+    decompose_within(
+        HEIGHT,
+        WIDTH,
+        LEVELS,
+        tolerance,
+        image,
+        &mut plane,
+        &mut coverings,
+        &mut scratch,
+    )?;
+    Ok(coverings)
+}
+
+fn different(coverings: &[u8]) -> usize {
+    coverings.iter().collect::<BTreeSet<_>>().len()
 }
 
 // The samples of a plane and its coverings.
@@ -258,22 +324,21 @@ fn restored(
 }
 
 fn run() -> Answer<()> {
-    // A slope with a bright diagonal bar, stored down columns.
+    // A soft slope with a fine grain and a bright diagonal bar, stored down columns.
     let mut image = vec![0u16; AREA];
     for x in 0..WIDTH {
         for y in 0..HEIGHT {
-            image[x * HEIGHT + y] =
-                (50 * x + 20 * y + if x.abs_diff(4 * y) < 4 { 1500 } else { 0 }) as u16;
+            let bar = if x.abs_diff(4 * y) < 4 { 1500 } else { 0 };
+            image[x * HEIGHT + y] = (5 * x + 2 * y + (x * x + 3 * y * y) % 17 + bar) as u16;
         }
     }
 
+    let near_kinds = different(&covered(&image, TOLERANCE)?);
     let (mut plane, coverings) = planed(&image)?;
-    let kinds = coverings
-        .iter()
-        .collect::<std::collections::BTreeSet<_>>()
-        .len();
+    let kinds = different(&coverings);
     let entries = plane.iter().filter(|v| **v != 0).count();
     println!("decomposed height {HEIGHT}, width {WIDTH} with {LEVELS} levels: {BLOCKS} blocks, {kinds} different coverings, {entries} plane entries not zero");
+    println!("different coverings used: {kinds} with tolerance 0, {near_kinds} with tolerance {TOLERANCE}");
 
     let left = keep(HEIGHT, WIDTH, LEVELS, &mut plane, 60)?;
     println!("kept {left} tetrolet coefficients");

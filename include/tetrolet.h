@@ -41,7 +41,8 @@ enum {
     TETROLET_TEXT = 9,        /* the text breaks the line rules */
     TETROLET_BUFFER = 10,     /* the text is longer than the buffer */
     TETROLET_SEQUENCE = 11,   /* block lines or plane lines that are not at their places */
-    TETROLET_BENCH = 12       /* cutter: the height or the width is over 32 */
+    TETROLET_BENCH = 12,      /* cutter: the height or the width is over 32 */
+    TETROLET_TOLERANCE = 13   /* the tolerance is over 4,095 */
 };
 
 /* The largest counts: samples of an image, coverings of an image, bytes of a sheet, bytes of a usage list. */
@@ -77,6 +78,18 @@ uint32_t tetrolet_word(uint8_t covering, uint8_t *word, size_t word_len);
  */
 uint32_t tetrolet_decompose(size_t height, size_t width, size_t levels, const uint16_t *samples, size_t samples_len, int64_t *plane,
                             size_t plane_len, uint8_t *coverings, size_t coverings_len, int64_t *scratch, size_t scratch_len);
+
+/*
+ * Decomposes an image with a tolerance, for a caller to whom few different coverings are worth a little cost. In a block of level r the coverings
+ * compete whose cost is at most the least plus tolerance * 2^r. The block takes the one of them that was chosen most often in all earlier blocks
+ * of the image, those of the finer levels too; then the lowest number. 0 gives what tetrolet_decompose gives.
+ *   tolerance  0 to 4,095
+ *   samples, plane, coverings, scratch    as for tetrolet_decompose
+ * Refusals: 1, 2, 3, 4, 13.
+ */
+uint32_t tetrolet_decompose_within(size_t height, size_t width, size_t levels, uint64_t tolerance, const uint16_t *samples, size_t samples_len,
+                                   int64_t *plane, size_t plane_len, uint8_t *coverings, size_t coverings_len, int64_t *scratch,
+                                   size_t scratch_len);
 
 /*
  * Restores an image from a plane and its coverings.

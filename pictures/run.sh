@@ -1,6 +1,7 @@
 #!/usr/bin/env bash
 # Builds the picture programs; makes the synthetic veneer and the picture of what a quota leaves of it, and compares both with those
-# kept here; turns the veneer, and two strips of it, into a sheet and back; makes a test image from a number, the one that every site has.
+# kept here; turns the veneer, and two strips of it, into a sheet and back; makes a test image from a number, the one that every site has;
+# prints what a tolerance does to the veneer and to the test image.
 # Needs a C compiler. With --built the library is taken as it stands.
 set -eu
 cd "$(dirname "$0")/.."
@@ -41,3 +42,9 @@ target/pictures/pgm test-image 512 512 0 >target/pictures/test.pgm
 [ "$(cksum <target/pictures/test.pgm)" = '4122849855 524304' ]
 target/pictures/pgm to-sheet 8 $((512 * 512 - 4)) <target/pictures/test.pgm | target/pictures/pgm to-pgm | cmp - target/pictures/test.pgm
 echo "target/pictures/test.pgm: the test image of 512 by 512 from 0, with the checksum that every site has; the whole quota gives it back"
+
+cc $flags pictures/tolerance.c pictures/image.c "$archive" -lm -o target/pictures/tolerance
+echo "a tolerance: the veneer with 7 levels, quota 1966"
+target/pictures/tolerance 7 1966 <pictures/veneer.pgm
+echo "a tolerance: the test image with 8 levels, quota 7864"
+target/pictures/tolerance 8 7864 <target/pictures/test.pgm

@@ -3,7 +3,7 @@
 
 FILE is a list of calls {entry, note, args, result | refusal}, as the vectors have them. Run tests/library.sh first.
 A refused call must leave each lent slice, and each number that is given through a pointer, as it was; both are lent with rubbish in them so that
-this shows. ENTRIES below is the table of the entries: a new one is a row.
+this shows. ENTRIES below is the table of the entries: a new one is a row. A call of decompose that names a tolerance is one of decompose_within.
 """
 import ctypes, json, os, re, sys
 
@@ -118,10 +118,12 @@ class Given:
 FRAME = [Number("height"), Number("width"), Number("levels")]
 PLANE, COVERS = Slice("plane", "i64"), Slice("covers", "u8")
 SCRATCH = Slice("scratch", "i64", of_area)
+IMAGE = [Slice("samples", "u16"), Slice("plane", "i64", of_area), Slice("covers", "u8", of_blocks), SCRATCH]
 
 ENTRIES = {
     "pieces": ("tetrolet_word", [Number("cover", "u8"), Slice("word", "u8", lambda e: 16)]),
-    "decompose": ("tetrolet_decompose", FRAME + [Slice("samples", "u16"), Slice("plane", "i64", of_area), Slice("covers", "u8", of_blocks), SCRATCH]),
+    "decompose": ("tetrolet_decompose", FRAME + IMAGE),
+    "decompose_within": ("tetrolet_decompose_within", FRAME + [Number("tolerance", "u64")] + IMAGE),
     "restore": ("tetrolet_restore", FRAME + [PLANE, COVERS, Slice("numerators", "i64", of_area), Slice("samples", "u16", of_area), SCRATCH]),
     "keep": ("tetrolet_keep", FRAME + [Slice("plane", "i64", of_area), Number("quota", "u64"), Given("left")]),
     "cut": ("tetrolet_threshold", FRAME + [Slice("plane", "i64", of_area), Number("threshold", "u64"), Given("left")]),
@@ -132,10 +134,14 @@ ENTRIES = {
 }
 
 
+def entry_of(e):
+    return "decompose_within" if e["entry"] == "decompose" and "tolerance" in e["args"] else e["entry"]
+
+
 def run(e):
-    if e["entry"] not in ENTRIES:
+    if entry_of(e) not in ENTRIES:
         return f"no such entry: {e['entry']}"
-    name, parameters = ENTRIES[e["entry"]]
+    name, parameters = ENTRIES[entry_of(e)]
     function = getattr(lib, name)
     function.restype = ctypes.c_uint32
     for p in parameters:
@@ -165,10 +171,10 @@ def main():
         except AttributeError as x:
             missing.add(str(x).split(":")[-1].strip())
             continue
-        done[e["entry"]] = done.get(e["entry"], 0) + 1
+        done[entry_of(e)] = done.get(entry_of(e), 0) + 1
         if why:
             bad += 1
-            print(f"call {i} ({e['entry']}, {e.get('note', '')}): {why}"[:400])
+            print(f"call {i} ({entry_of(e)}, {e.get('note', '')}): {why}"[:400])
     for k in sorted(done):
         print(f"{k}: {done[k]} calls")
     for m in sorted(missing):

@@ -158,6 +158,20 @@ static void compare(struct tally *t, uint32_t a, uint32_t b)
         t->refused[a % REFUSALS]++;
 }
 
+/* Compares what one entry of the library left with what another left on the slices of the plain C, which then hold again what they held. */
+static void compare_entries(uint32_t a, uint32_t b)
+{
+    if (a != b) {
+        printf("the library answers %u and %u\n", a, b);
+        differ("answers of two entries differ");
+    }
+    for (int k = 0; k < lent_count; k++) {
+        if (memcmp(lent[k].lib, lent[k].base, lent[k].bytes) != 0)
+            differ("slices of two entries differ");
+        memcpy(lent[k].base, lent[k].old, lent[k].bytes);
+    }
+}
+
 static void drop(void)
 {
     for (int k = 0; k < lent_count; k++) {
@@ -482,6 +496,50 @@ static void call_decompose(struct tally *t)
                                  coverings->base, coverings->len, scratch->base, scratch->len));
 }
 
+/* A tolerance: none, small ones, the largest, the first that is too large, one whose low bits are a good one, or anything. */
+static uint64_t make_tolerance(void)
+{
+    switch (below(16)) {
+    case 0:
+    case 1: return 0;
+    case 2: return 1;
+    case 3: return 4095;
+    case 4: return 4096;
+    case 5: return ((uint64_t)1 << (12 + below(52))) + below(4096);
+    case 6: return next();
+    case 7: return UINT64_MAX;
+    case 8:
+    case 9:
+    case 10: return below(16);
+    case 11:
+    case 12:
+    case 13: return below(256);
+    default: return below(4096);
+    }
+}
+
+static void call_within(struct tally *t)
+{
+    struct frame f = make_frame();
+    count_strip(t, f);
+    struct slice *samples = lend(length_near(f.area), 2), *plane = lend(length_near(f.area), 8), *coverings = lend(length_near(f.blocks), 1),
+                 *scratch = lend(length_near(f.area), 8);
+    uint64_t tolerance = make_tolerance();
+    fill_samples(samples->base, samples->len);
+    settle();
+    uint32_t a = tetrolet_decompose_within(f.height, f.width, f.levels, tolerance, samples->lib, samples->len, plane->lib, plane->len,
+                                           coverings->lib, coverings->len, scratch->lib, scratch->len);
+    if (tolerance == 0)
+        compare_entries(a, tetrolet_decompose(f.height, f.width, f.levels, samples->base, samples->len, plane->base, plane->len,
+                                              coverings->base, coverings->len, scratch->base, scratch->len));
+    if (asks_plain(f.area))
+        compare_plain(t, a, plain_decompose_within(words, WORDS, f.height, f.width, f.levels, tolerance, samples->plain, samples->len,
+                                                   plane->plain, plane->len, coverings->plain, coverings->len, scratch->plain,
+                                                   scratch->len));
+    compare(t, a, base_decompose_within((int)below(2), f.height, f.width, f.levels, tolerance, samples->base, samples->len, plane->base,
+                                        plane->len, coverings->base, coverings->len, scratch->base, scratch->len));
+}
+
 static void call_restore(struct tally *t)
 {
     struct frame f = make_frame();
@@ -672,6 +730,7 @@ int main(int argc, char **argv)
     } entries[] = {
         { call_word, { "word", 0, { 0 }, 0, 0, 0 } },
         { call_decompose, { "decompose", 0, { 0 }, 0, 0, 0 } },
+        { call_within, { "within", 0, { 0 }, 0, 0, 0 } },
         { call_restore, { "restore", 0, { 0 }, 0, 0, 0 } },
         { call_keep, { "keep", 0, { 0 }, 0, 0, 0 } },
         { call_threshold, { "threshold", 0, { 0 }, 0, 0, 0 } },

@@ -11,6 +11,9 @@ uint32_t plain_word(const uint8_t *words, size_t words_len, uint8_t covering, ui
 uint32_t plain_decompose(const uint8_t *words, size_t words_len, size_t height, size_t width, size_t levels, const uint16_t *samples,
                          size_t samples_len, int64_t *plane, size_t plane_len, uint8_t *coverings, size_t coverings_len, int64_t *scratch,
                          size_t scratch_len);
+uint32_t plain_decompose_within(const uint8_t *words, size_t words_len, size_t height, size_t width, size_t levels, uint64_t tolerance,
+                                const uint16_t *samples, size_t samples_len, int64_t *plane, size_t plane_len, uint8_t *coverings,
+                                size_t coverings_len, int64_t *scratch, size_t scratch_len);
 uint32_t plain_restore(const uint8_t *words, size_t words_len, size_t height, size_t width, size_t levels, const int64_t *plane,
                        size_t plane_len, const uint8_t *coverings, size_t coverings_len, int64_t *numerators, size_t numerators_len, uint16_t *samples,
                        size_t samples_len, int64_t *scratch, size_t scratch_len);

@@ -1,8 +1,8 @@
 -- Decomposing level by level: what is known after some levels, and that one more keeps it. Assumes nothing.
 use mathlib.Core.Path.{_≡_, refl, sym, ap, _∙_, subst, subst⁻¹, fun-ext}
 use mathlib.Core.List.{List, [], _++_, map, append-assoc, append-nil}
-use Prim.Native.Nat.{ℕ, suc, _+_, _*_, _/_, _^_, _<_, _≤_}
-use native.Mathlib.Nat.{zero-add, add-assoc, pow-succ', pow-le-pow-right, mul-le-mul-left, mul-le-mul-right, le-trans}
+use Prim.Native.Nat.{ℕ, suc, _+_, _*_, _-_, _/_, _^_, _<_, _≤_}
+use native.Mathlib.Nat.{zero-add, add-assoc, pow-succ', pow-le-pow-right, mul-le-mul, mul-le-mul-left, mul-le-mul-right, le-trans}
 use native.Mathlib.Omega.{arith}
 use lib.IntN.{ℤ, pos, natAbs}
 use lib.ListN.{length, getD, take, List·getD-map, List·getD-append}
@@ -11,6 +11,7 @@ use Rattle.integers.proofs.Index.{index-bound}
 use Rattle.slices.specs.Stores.{rectangles}
 use Rattle.slices.proofs.Stores.{rectangles-in, rectangles-out}
 use Rattle.counts.specs.Counts.{countsOf}
+use Rattle.terms.specs.Terms.{within, pickTerms}
 use Rattle.pyramid.specs.Plane.{Image, Fits, blocks, allBlocks, after, bandsOf, analyse, Chooser, following, listed, coversAfter}
 use Rattle.pyramid.specs.Slices.{imageOf, pictureOf, sliceOf}
 use Rattle.analysis.specs.Analysis.{Region, Small, Banded, Levelled}
@@ -209,3 +210,26 @@ unfolding coversAfter
 descend-covers rule R H W s plane cov counts tall wide first long d =
     let e : first ≡ length cov = let g = d .worked .rest in omega arith in
     sym (take-length cov) ∙ ap (λ (n : ℕ). take n cov) (sym e) ∙ sym (append-nil (take first cov)) ∙ d .covered
+
+-- ---- with a tolerance: what it allows doubles from level to level
+
+pub allowed-first : (t R : ℕ) → t * 2 ≡ t * 2 ^ suc (R - R)
+allowed-first t R = ap (λ (n : ℕ). t * 2 ^ suc n) (sym (none R))
+  where
+    none : (R : ℕ) → R - R ≡ 0
+    none R = omega arith
+
+pub allowed-next : (t slack R left : ℕ) → 0 < left → left ≤ R → slack ≡ t * 2 ^ suc (R - left) → slack * 2 ≡ t * 2 ^ suc (R - (left - 1))
+allowed-next t slack R left l h e =
+    let n : suc (R - left) ≡ R - (left - 1) = omega arith in
+    ap (λ (m : ℕ). m * 2) e ∙ move t (2 ^ suc (R - left)) ∙ ap (λ (m : ℕ). t * m) (sym (pow-succ' 2 (suc (R - left)))) ∙ ap (λ (m : ℕ). t * 2 ^ suc m) n
+  where
+    move : (a b : ℕ) → a * b * 2 ≡ a * (2 * b)
+    move a b = omega arith
+
+pub allowed-small : (t slack R left : ℕ) → t ≤ 4095 → R ≤ 8 → slack ≡ t * 2 ^ suc (R - left) → slack ≤ 2 ^ 40
+allowed-small t slack R left h r e = rw e (le-trans (mul-le-mul h (pow-le-pow-right {n = 2} (omega arith) {i = suc (R - left)} {j = 9} (omega arith))) (omega arith))
+
+-- the level's choice is that of its terms
+pub levelled-as : {n m h tall wide first : ℕ} {A : Image} {old new : List ℕ} {out : List ℤ} {counts : List ℕ} → n ≡ m → Levelled (pickTerms (within n)) h tall wide first A old new out counts → Levelled (pickTerms (within m)) h tall wide first A old new out counts
+levelled-as {h} {tall} {wide} {first} {A} {old} {new} {out} {counts} e v = subst (λ (k : ℕ). Levelled (pickTerms (within k)) h tall wide first A old new out counts) e v

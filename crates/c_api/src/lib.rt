@@ -8,7 +8,7 @@ ghost use Rattle.sheet.specs.Usage.{UsageAnswered};
 ghost use Rattle.keeping.specs.Entries.{Kept, Cut};
 ghost use Rattle.c_api.specs.Told.{Told};
 ghost use Rattle.coverings.specs.Entry.{WordAnswered};
-ghost use Rattle.coder.specs.Entries.{Decomposed, Restored};
+ghost use Rattle.coder.specs.Entries.{Decomposed, DecomposedWithin, Restored};
 ghost use Rattle.generator.specs.Generator.{Generated};
 use refusals::Counted;
 use sheet::Reading;
@@ -34,6 +34,32 @@ pub extern "C" fn tetrolet_decompose(
     ensures { λ n. ⌜ Decomposed height width levels (now (samples .entry)) (now (plane .entry)) (now (plane .exit)) (now (coverings .entry)) (now (coverings .exit)) (now (scratch .entry)) (now (scratch .exit)) n ⌝ }
 {
     refusals::code(coder::decompose(height, width, levels, samples, plane, coverings, scratch))
+}
+
+// Decomposes a picture with a tolerance; 0 gives what tetrolet_decompose gives.
+#[no_mangle]
+pub extern "C" fn tetrolet_decompose_within(
+    height: usize,
+    width: usize,
+    levels: usize,
+    tolerance: u64,
+    samples: &[u16],
+    plane: &mut [i64],
+    coverings: &mut [u8],
+    scratch: &mut [i64],
+) -> u32
+    ensures { λ n. ⌜ DecomposedWithin height width levels tolerance (now (samples .entry)) (now (plane .entry)) (now (plane .exit)) (now (coverings .entry)) (now (coverings .exit)) (now (scratch .entry)) (now (scratch .exit)) n ⌝ }
+{
+    refusals::code(coder::decompose_within(
+        height,
+        width,
+        levels,
+        tolerance,
+        samples,
+        plane,
+        coverings,
+        scratch,
+    ))
 }
 
 #[no_mangle]

@@ -9,34 +9,36 @@ use lib.IntN.{ℤ, pos}
 use lib.ListN.{replicate}
 use Rattle.refusals.specs.Refusal.{refuseIf, afterCall}
 use Rattle.integers.specs.Lists.{every}
+use Rattle.terms.specs.Terms.{within}
 use Rattle.pyramid.specs.Sides.{isPlane, isCoverings}
-use Rattle.pyramid.specs.Slices.{coversOf, planeOf, numeratorsOf, samplesOf}
+use Rattle.pyramid.specs.Slices.{coversBy, planeBy, numeratorsOf, samplesOf}
 use Rattle.places.specs.Sizes.{sizeRefusal}
 use Rattle.coder.specs.Entries.{isSample}
 use Rattle.quota.specs.Quota.{keptOf, entriesOf, quotaLimit}
 use Rattle.quota.specs.Claims.{Demand}
 
--- The checks of the three calls, all before the first: 1 2 3 4 of decomposing, 3 with restoring's slices too, then Keep's 7. What decomposing and Keep
--- leave passes the others.
-abbrev pub chainRefusal : ℕ → ℕ → ℕ → ℕ → List ℕ → List ℤ → List ℕ → List ℤ → List ℕ → List ℤ → ℕ
-chainRefusal height width levels quota samples plane coverings numerators restored scratch =
+-- The checks of the three calls, all before the first: 1 2 3 4 13 of decomposing with a tolerance, 3 with restoring's slices too, then Keep's 7. What
+-- decomposing and Keep leave passes the others.
+abbrev pub chainRefusal : ℕ → ℕ → ℕ → ℕ → ℕ → List ℕ → List ℤ → List ℕ → List ℤ → List ℕ → List ℤ → ℕ
+chainRefusal height width levels tolerance quota samples plane coverings numerators restored scratch =
     sizeRefusal height width levels
     (refuseIf (not ((isPlane height width samples && (isPlane height width plane && (isCoverings levels height width coverings && isPlane height width scratch))) && (isPlane height width numerators && isPlane height width restored))) 3
     (refuseIf (not (every isSample samples)) 4
+    (refuseIf (ltb 4095 tolerance) 13
     (refuseIf (ltb (quotaLimit height width levels) quota) 7
-    0)))
+    0))))
 
 -- The number answered is n, and `left` the count that comes with it, 0 where the chain is refused. A name with ′ is what the slice holds after the chain.
-pub record Chained (height width levels quota : ℕ) (samples : List ℕ) (plane plane′ : List ℤ) (coverings coverings′ : List ℕ) (numerators numerators′ : List ℤ) (restored restored′ : List ℕ) (scratch scratch′ : List ℤ) (n left : ℕ) : Type 0 where
-  pub number : n ≡ chainRefusal height width levels quota samples plane coverings numerators restored scratch
+pub record Chained (height width levels tolerance quota : ℕ) (samples : List ℕ) (plane plane′ : List ℤ) (coverings coverings′ : List ℕ) (numerators numerators′ : List ℤ) (restored restored′ : List ℕ) (scratch scratch′ : List ℤ) (n left : ℕ) : Type 0 where
+  pub number : n ≡ chainRefusal height width levels tolerance quota samples plane coverings numerators restored scratch
   -- "decomposing, then Keep on the plane as left, then restoring what Keep left with the coverings that decomposing gave, the picture's sides and R the
   -- same throughout"
-  pub planes : plane′ ≡ afterCall n (keptOf levels height width quota (planeOf levels height width samples)) plane
-  pub covers : coverings′ ≡ afterCall n (coversOf levels height width samples) coverings
+  pub planes : plane′ ≡ afterCall n (keptOf levels height width quota (planeBy (within tolerance) levels height width samples)) plane
+  pub covers : coverings′ ≡ afterCall n (coversBy (within tolerance) levels height width samples) coverings
   pub values : numerators′ ≡ afterCall n (numeratorsOf levels height width coverings′ plane′) numerators
   pub image : restored′ ≡ afterCall n (samplesOf levels height width coverings′ plane′) restored
   pub zeros : scratch′ ≡ afterCall n (replicate (width * height) (pos 0)) scratch
   pub counts : left ≡ afterCall n (entriesOf levels height width plane′) 0
   -- the third demand of these slices; the numerators of the kept plane are those that restoring gave, by `values`. Document 02, wish 2: "the claim about
-  -- rivals is wanted for strips too"
-  pub demand : n ≡ 0 → Demand levels height width quota samples coverings′ (planeOf levels height width samples) plane′
+  -- rivals is wanted for strips too". Wish 6: "whatever builds on that choice takes it over. The quota claim is kept, over the coverings chosen."
+  pub demand : n ≡ 0 → Demand (within tolerance) levels height width quota samples coverings′ (planeBy (within tolerance) levels height width samples) plane′

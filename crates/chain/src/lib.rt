@@ -1,4 +1,4 @@
-// The chain of the third demand: decompose, then keep on the plane as left, then restore what keep left, with the coverings that decomposing gave and the
+// The chain of the third demand: decompose with a tolerance, then keep on the plane as left, then restore what keep left, with the coverings that decomposing gave and the
 // height, the width and the levels the same throughout. What it answers and leaves, and the third demand of its own slices, is in specs/Chain.antt.
 ghost use mathlib.Core.Path.{_≡_};
 ghost use Rattle.refusals.specs.Refusal.{answerOf, countedOf, countOf};
@@ -7,11 +7,12 @@ use refusals::Answer;
 use refusals::Counted;
 use refusals::Refusal;
 
-// The checks of the chain, all before its first call: those of decompose, with restore's slices too, then the quota.
+// The checks of the chain, all before its first call: those of decompose_within, with restore's slices too, then the quota.
 fn chain_checks(
     height: usize,
     width: usize,
     levels: usize,
+    tolerance: u64,
     quota: u64,
     samples: &[u16],
     plane: &[i64],
@@ -20,7 +21,7 @@ fn chain_checks(
     restored: &[u16],
     scratch: &[i64],
 ) -> Answer
-    ensures { λ r. ⌜ answerOf r ≡ chainRefusal height width levels quota (now (samples .entry)) (now (plane .entry)) (now (coverings .entry)) (now (numerators .entry)) (now (restored .entry)) (now (scratch .entry)) ⌝ }
+    ensures { λ r. ⌜ answerOf r ≡ chainRefusal height width levels tolerance quota (now (samples .entry)) (now (plane .entry)) (now (coverings .entry)) (now (numerators .entry)) (now (restored .entry)) (now (scratch .entry)) ⌝ }
 {
     let sized = places::checks::size_checks(height, width, levels);
     if let Answer::Refused(r) = sized {
@@ -37,6 +38,9 @@ fn chain_checks(
     if !coder::all_samples(samples) {
         return Answer::Refused(Refusal::Sample);
     }
+    if terms::largest_tolerance() < tolerance {
+        return Answer::Refused(Refusal::Tolerance);
+    }
     if sifting::ranks::most_entries(height as u32, width as u32, levels as u32) < quota {
         return Answer::Refused(Refusal::Quota);
     }
@@ -49,6 +53,7 @@ pub fn decompose_keep_restore(
     height: usize,
     width: usize,
     levels: usize,
+    tolerance: u64,
     quota: u64,
     samples: &[u16],
     plane: &mut [i64],
@@ -57,12 +62,13 @@ pub fn decompose_keep_restore(
     restored: &mut [u16],
     scratch: &mut [i64],
 ) -> Counted
-    ensures { λ r. ⌜ Chained height width levels quota (now (samples .entry)) (now (plane .entry)) (now (plane .exit)) (now (coverings .entry)) (now (coverings .exit)) (now (numerators .entry)) (now (numerators .exit)) (now (restored .entry)) (now (restored .exit)) (now (scratch .entry)) (now (scratch .exit)) (countedOf r) (countOf r) ⌝ }
+    ensures { λ r. ⌜ Chained height width levels tolerance quota (now (samples .entry)) (now (plane .entry)) (now (plane .exit)) (now (coverings .entry)) (now (coverings .exit)) (now (numerators .entry)) (now (numerators .exit)) (now (restored .entry)) (now (restored .exit)) (now (scratch .entry)) (now (scratch .exit)) (countedOf r) (countOf r) ⌝ }
 {
     let found = chain_checks(
         height,
         width,
         levels,
+        tolerance,
         quota,
         samples,
         plane,
@@ -75,7 +81,16 @@ pub fn decompose_keep_restore(
         return Counted::Refused(r);
     }
     // None of the three is refused after these checks.
-    coder::decompose(height, width, levels, samples, plane, coverings, scratch);
+    coder::decompose_within(
+        height,
+        width,
+        levels,
+        tolerance,
+        samples,
+        plane,
+        coverings,
+        scratch,
+    );
     let kept = keeping::keep(height, width, levels, plane, quota);
     coder::restore(
         height,

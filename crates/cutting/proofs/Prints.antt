@@ -111,9 +111,9 @@ module _ (t : List ℕ) where
   pub no-sizes : (o : Header) (r : Refusal) → o ≡ Refused r → Checked t o → (m : ℕ) → m ≡ headerOf o → cutterText t ≡ refusalText m
   no-sizes o r e h m k = subst (Checked t) e h ∙ ap refusalText (sym (k ∙ ap headerOf e))
 
-pub header-le : (o : Header) → headerOf o ≤ 12
+pub header-le : (o : Header) → headerOf o ≤ 99
 header-le (Of h) = omega arith
-header-le (Refused r) = number-le r
+header-le (Refused r) = omega (arith, number-le r)
 
 -- what is printed stands in the slice
 pub within : {t old new : List ℕ} {m : ℕ} → Printed t old new m → m ≤ length new

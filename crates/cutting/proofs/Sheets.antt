@@ -107,14 +107,14 @@ module _ (h w R : ℕ) (s : List ℕ) (a : isSides h w ≡ true) (b : isDepth R 
       where
         go : (r : ℕ) → Fits r h w → 1 ≤ r → T (inRange r h w (imageOf h (planeOf r h w s)))
         go zero f l = absurd (omega arith)
-        go (suc r) f l = plane-accepted r h w f s below
+        go (suc r) f l = plane-accepted r h w f (coversOf (suc r) h w s) s below
 
     kept-ranges : (K : ℕ) → inRange R h w (imageOf h (keptOf R h w K P)) ≡ true
     kept-ranges K = let q = passed h w R a b in is-true (inRange R h w (imageOf h (keptOf R h w K P))) (go R (q .fits) (q .some-level))
       where
         go : (r : ℕ) → Fits r h w → 1 ≤ r → T (inRange r h w (imageOf h (keptOf r h w K (planeOf r h w s))))
         go zero f l = absurd (omega arith)
-        go (suc r) f l = kept-accepted r h w f s below K
+        go (suc r) f l = kept-accepted r h w f (coversOf (suc r) h w s) s below K
 
     numbers : every isNumber C ≡ true
     numbers =

@@ -38,7 +38,7 @@ fn covering_buffer() -> [u8; 85]
 
 // Prints a refusal.
 fn put_refusal(out: &mut [u8], number: u32) -> usize
-    requires { ⌜ (number ≤ 12) × (65536 ≤ length (now out)) ⌝ }
+    requires { ⌜ (number ≤ 99) × (65536 ≤ length (now out)) ⌝ }
     ensures { λ r. ⌜ Printed (refusalText number) (now (out .entry)) (now (out .exit)) r ⌝ }
 {
     let p = text::write::put_bytes(out, 0, b"refusal\n");

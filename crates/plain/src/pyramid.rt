@@ -32,6 +32,7 @@ use plain_frame::safe::rest;
 use plain_frame::safe::sample_at;
 use plain_frame::safe::size;
 use plain_frame::safe::times;
+use plain_frame::safe::total;
 use plain_frame::safe::value_at;
 
 // Copies the upper left part that a level is about, the whole plane for level 1.
@@ -65,7 +66,13 @@ fn load(samples: &[u16], plane: &mut [i64]) {
     }
 }
 
-// The least cost; then the most often chosen in the blocks before, those of the earlier levels too; then the lowest number.
+// How the covering of a block is chosen: with a tolerance, or without one.
+enum Rule {
+    Least,
+    Within(u64),
+}
+
+// Without a tolerance: the least cost; then the most often chosen in the blocks before, those of the earlier levels too; then the lowest number.
 fn choose(words: &[u8], image: &[i64], at: Corner, coverings: &[u8], before: usize) -> u8 {
     let mut best: u8 = 1;
     let mut least = cost(words, 1, image, at);
@@ -89,6 +96,85 @@ fn choose(words: &[u8], image: &[i64], at: Corner, coverings: &[u8], before: usi
         covering += 1;
     }
     best
+}
+
+// The least that a covering of the block costs.
+fn least_cost(words: &[u8], image: &[i64], at: Corner) -> u64 {
+    let mut least = cost(words, 1, image, at);
+    let mut covering: u8 = 2;
+    while covering < 118 {
+        let now = cost(words, covering, image, at);
+        if now < least {
+            least = now;
+        }
+        covering += 1;
+    }
+    least
+}
+
+// Of the coverings that cost at most `limit` the most often chosen in the blocks before, then the lowest number: from the last number to the first, each
+// that was chosen at least as often as the best so far is better.
+fn most_frequent(
+    words: &[u8],
+    image: &[i64],
+    at: Corner,
+    coverings: &[u8],
+    before: usize,
+    limit: u64,
+) -> u8 {
+    let mut best: u8 = 0;
+    let mut most: usize = 0;
+    let mut covering: u8 = 117;
+    while 0 < covering {
+        if cost(words, covering, image, at) <= limit {
+            let chosen = times_chosen(coverings, before, covering);
+            if most <= chosen {
+                best = covering;
+                most = chosen;
+            }
+        }
+        covering -= 1;
+    }
+    best
+}
+
+// With a tolerance: at this level a covering may cost the tolerance times 2^level more than the least.
+fn choose_within(
+    words: &[u8],
+    image: &[i64],
+    at: Corner,
+    coverings: &[u8],
+    before: usize,
+    tolerance: u64,
+    level: usize,
+) -> u8 {
+    let slack = times(tolerance as usize, power(level));
+    let limit = total(least_cost(words, image, at), slack as u64);
+    most_frequent(words, image, at, coverings, before, limit)
+}
+
+// A tolerance of 0 is not sent to `choose`: that the two then give the same is seen by running both.
+fn choose_by(
+    words: &[u8],
+    rule: Rule,
+    image: &[i64],
+    at: Corner,
+    coverings: &[u8],
+    before: usize,
+    level: usize,
+) -> u8 {
+    match rule {
+        Rule::Least => choose(words, image, at, coverings, before),
+        Rule::Within(tolerance) => choose_within(
+            words,
+            image,
+            at,
+            coverings,
+            before,
+            tolerance,
+            level,
+        ),
+    }
 }
 
 // Row and column, in a band, of the label's place in the result of a block.
@@ -181,6 +267,7 @@ fn split_pieces(
 
 fn split_block(
     words: &[u8],
+    rule: Rule,
     image: &[i64],
     plane: &mut [i64],
     coverings: &mut [u8],
@@ -190,13 +277,15 @@ fn split_block(
 ) {
     let p = block_in_level(extent, level, n);
     let now = plus(blocks_before(extent, level), n);
-    let covering = choose(words, image, corner(extent.height, p), coverings, now);
+    let at = corner(extent.height, p);
+    let covering = choose_by(words, rule, image, at, coverings, now, level);
     put_byte(coverings, now, covering);
     split_pieces(words, covering, image, plane, extent, p);
 }
 
 fn split_level(
     words: &[u8],
+    rule: Rule,
     plane: &mut [i64],
     scratch: &mut [i64],
     coverings: &mut [u8],
@@ -207,13 +296,14 @@ fn split_level(
     let blocks = level_blocks(extent, level);
     let mut n: usize = 0;
     while n < blocks {
-        split_block(words, scratch, plane, coverings, extent, level, n);
+        split_block(words, rule, scratch, plane, coverings, extent, level, n);
         n += 1;
     }
 }
 
 fn split(
     words: &[u8],
+    rule: Rule,
     extent: Extent,
     levels: usize,
     plane: &mut [i64],
@@ -223,7 +313,7 @@ fn split(
     let mut level: usize = 0;
     while level < levels {
         level += 1;
-        split_level(words, plane, scratch, coverings, extent, level);
+        split_level(words, rule, plane, scratch, coverings, extent, level);
     }
     clear(scratch);
 }
@@ -253,7 +343,7 @@ fn decompose_refusal(
     0
 }
 
-// Decomposes a picture. `words` are those of `list_words`.
+// Decomposes a picture without a tolerance. `words` are those of `list_words`.
 pub fn decompose(
     words: &[u8],
     height: usize,
@@ -280,7 +370,76 @@ pub fn decompose(
         return bad;
     }
     load(samples, plane);
-    split(words, extent, levels, plane, scratch, coverings);
+    split(
+        words,
+        Rule::Least,
+        extent,
+        levels,
+        plane,
+        scratch,
+        coverings,
+    );
+    0
+}
+
+// The same, and check 13.
+fn within_refusal(
+    extent: Extent,
+    levels: usize,
+    tolerance: u64,
+    samples: &[u16],
+    plane: usize,
+    coverings: usize,
+    scratch: usize,
+) -> u32 {
+    let bad = decompose_refusal(extent, levels, samples, plane, coverings, scratch);
+    if bad != 0 {
+        return bad;
+    }
+    if 4095 < tolerance {
+        return 13;
+    }
+    0
+}
+
+// Decomposes a picture with a tolerance. `words` are those of `list_words`.
+pub fn decompose_within(
+    words: &[u8],
+    height: usize,
+    width: usize,
+    levels: usize,
+    tolerance: u64,
+    samples: &[u16],
+    plane: &mut [i64],
+    coverings: &mut [u8],
+    scratch: &mut [i64],
+) -> u32 {
+    let extent = Extent {
+        height: height,
+        width: width,
+    };
+    let bad = within_refusal(
+        extent,
+        levels,
+        tolerance,
+        samples,
+        plane.len(),
+        coverings.len(),
+        scratch.len(),
+    );
+    if bad != 0 {
+        return bad;
+    }
+    load(samples, plane);
+    split(
+        words,
+        Rule::Within(tolerance),
+        extent,
+        levels,
+        plane,
+        scratch,
+        coverings,
+    );
     0
 }
 

@@ -45,6 +45,31 @@ pub extern "C" fn plain_decompose(
 }
 
 #[no_mangle]
+pub extern "C" fn plain_decompose_within(
+    words: &[u8],
+    height: usize,
+    width: usize,
+    levels: usize,
+    tolerance: u64,
+    samples: &[u16],
+    plane: &mut [i64],
+    coverings: &mut [u8],
+    scratch: &mut [i64],
+) -> u32 {
+    plain::pyramid::decompose_within(
+        words,
+        height,
+        width,
+        levels,
+        tolerance,
+        samples,
+        plane,
+        coverings,
+        scratch,
+    )
+}
+
+#[no_mangle]
 pub extern "C" fn plain_restore(
     words: &[u8],
     height: usize,

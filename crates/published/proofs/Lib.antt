@@ -5,4 +5,5 @@ pub mod Example
 pub mod Halves
 pub mod Labels
 pub mod Pieces
+pub mod Relaxed
 pub mod Scaled

@@ -1,20 +1,21 @@
--- The published transform, document 000: the Haar matrix with its factor 1/2, the cost of a covering, the choice, the reshape, and the levels. The paper's
--- numbers have halves. Here the picture is counted in units so small that every half is a whole number: of R levels, the picture times 2 ^ R in units of
--- 1 / 2 ^ R. That no half is ever rounded is the law `Exact` of Laws.antt. What the paper leaves open is document 01's: the numbers of the coverings, the
--- last rule of ties, and which of several best labellings is taken (`labelsOf`); and document 02's: that previous blocks are those of the whole picture.
--- Assumes nothing.
-use mathlib.Core.Bool.{Bool, _&&_, _||_, cond}
+-- The published transform, document 000: the Haar matrix with its factor 1/2, the cost of a covering, the choice and the relaxed choice of section 5 (b), the
+-- reshape, and the levels. The paper's numbers have halves. Here the picture is counted in units so small that every half is a whole number: of R levels, the
+-- picture times 2 ^ R in units of 1 / 2 ^ R; the tolerance theta is counted in the same units. That no half is ever rounded is the law `Exact` of Laws.antt.
+-- What the paper leaves open is document 01's: the numbers of the coverings, the last rule of ties, and which of several best labellings is taken
+-- (`labelsOf`); and document 02's: that previous blocks are those of the whole picture. Assumes nothing.
+use mathlib.Core.Bool.{Bool, _&&_, _||_, not, cond}
 use mathlib.Core.List.{List, [], _∷_, _++_, map}
-use Prim.Native.Nat.{ℕ, zero, suc, _/_, _%_}
+use Prim.Native.Nat.{ℕ, zero, suc, _+_, _/_, _%_}
 use lib.Dec.{eqb, leb, ltb}
 use lib.ListN.{length, getD}
 use lib.IntN.{ℤ, pos, negℤ, natAbs, _*ℤ_}
 use lib.Signed.{shrZ}
 use Rattle.integers.specs.Sum.{Σℤ, Σℕ}
+use Rattle.integers.specs.Lists.{tabulate, every}
 use Rattle.coverings.specs.Block.{nameOf}
 use Rattle.coverings.specs.Words.{wordOf}
 use Rattle.block.specs.Block.{valuesOf, shapesOf, placeIn, labelsOf, countIn}
-use Rattle.pyramid.specs.Plane.{Image, blocks, blockOf, wordAt, after, listed}
+use Rattle.pyramid.specs.Plane.{Image, Chooser, blocks, blockOf, wordAt, after, listed}
 use Rattle.pyramid.specs.Places.{Place, tetroletPlaces}
 
 -- The picture in units of which c make one of its own.
@@ -77,6 +78,20 @@ firstOf before (suc n) = let m = firstOf before n in cond (before (suc (suc n)) 
 unfoldable pub publishedChoice : List ℕ → (ℕ → ℤ) → ℕ
 publishedChoice earlier v = firstOf (publishedBeats earlier v) 116
 
+-- Section 5 (b), step 1: "Find the set A' ⊂ A of almost optimal configurations c", whose norm is at most the minimum of (3.3) plus θ, "with a predetermined
+-- tolerance parameter θ": n is in the set if it costs at most theta more than each of the 117.
+unfoldable pub almost : ℕ → (ℕ → ℤ) → ℕ → Bool
+almost theta v n = every (λ m. leb (publishedCost (wordOf n) v) (publishedCost (wordOf m) v + theta)) (tabulate 117 suc)
+
+-- Step 2: "Among these tilings take the covering c* ∈ A' which is chosen most frequently in the previous image blocks": n goes before m. Among them the cost
+-- does not count.
+abbrev pub relaxedBeats : ℕ → List ℕ → (ℕ → ℤ) → ℕ → ℕ → Bool
+relaxedBeats theta earlier v n m = almost theta v n && (not (almost theta v m) || ltb (countIn m earlier) (countIn n earlier))
+
+-- "we allow the choice of an almost optimal covering c* in (3.3)": of the 117 again; what the paper leaves open goes to the lowest number (document 01).
+unfoldable pub relaxedChoice : ℕ → List ℕ → (ℕ → ℤ) → ℕ
+relaxedChoice theta earlier v = firstOf (relaxedBeats theta earlier v) 116
+
 -- Step 3: the Haar tiling is the four squares, labelled as the matrix (0 2 | 1 3) has them; a labelling's "number of deviations" is that of the cells whose
 -- label differs from their square's. That no labelling has fewer than `labelsOf` is the law `labels`.
 abbrev pub squareLabel : ℕ → ℕ
@@ -113,24 +128,28 @@ publishedLevel (suc (suc r)) h w cs A l = publishedLevel (suc r) (h / 2) (w / 2)
 abbrev pub publishedAt : ℕ → ℕ → (ℕ → ℕ) → Image → Place → ℤ
 publishedAt h w cs A p = publishedLevel (p .level) h w cs A (p .band) (p .row) (p .col)
 
--- One list holds the coverings of all blocks, and each block adds its own: here the first n blocks of a level, in column order. "The previous blocks" are all
--- that the list holds, those of the levels before too (document 02, wish 5).
-unfoldable pub publishedTo : List ℕ → ℕ → Image → ℕ → List ℕ
-publishedTo previous h A zero = previous
-publishedTo previous h A (suc n) =
-    let earlier = publishedTo previous h A n in
-    earlier ++ (publishedChoice earlier (blockOf A (n % (h / 4)) (n / (h / 4))) ∷ [])
+-- One list holds the coverings of all blocks, and each block adds its own, by a rule of choice: here the first n blocks of a level, in column order. "The
+-- previous blocks" are all that the list holds, those of the levels before too (document 02, wish 5).
+unfoldable pub publishedTo : Chooser → List ℕ → ℕ → Image → ℕ → List ℕ
+publishedTo choose previous h A zero = previous
+publishedTo choose previous h A (suc n) =
+    let earlier = publishedTo choose previous h A n in
+    earlier ++ (choose earlier (blockOf A (n % (h / 4)) (n / (h / 4))) ∷ [])
 
--- "For each block we have to store the covering that has been chosen": the list after R more levels, level by level.
-unfoldable pub publishedFrom : List ℕ → ℕ → ℕ → ℕ → Image → List ℕ
-publishedFrom previous zero h w A = previous
-publishedFrom previous (suc R) h w A =
-    let chosen = publishedTo previous h A (blocks h w) in
-    publishedFrom chosen R (h / 2) (w / 2) (publishedBands h (after (length previous) (listed chosen)) A 0)
+-- "For each block we have to store the covering that has been chosen": the list after R more levels, level by level. The rule is the same at every level.
+unfoldable pub publishedFrom : Chooser → List ℕ → ℕ → ℕ → ℕ → Image → List ℕ
+publishedFrom choose previous zero h w A = previous
+publishedFrom choose previous (suc R) h w A =
+    let chosen = publishedTo choose previous h A (blocks h w) in
+    publishedFrom choose chosen R (h / 2) (w / 2) (publishedBands h (after (length previous) (listed chosen)) A 0)
 
 -- At the start it is empty.
 abbrev pub publishedCovers : ℕ → ℕ → ℕ → Image → List ℕ
-publishedCovers R h w A = publishedFrom [] R h w A
+publishedCovers R h w A = publishedFrom publishedChoice [] R h w A
+
+-- Section 5 (b), "we replace (3.3) by the two steps": the relaxed choice, with the same theta at every level.
+abbrev pub relaxedCovers : ℕ → ℕ → ℕ → ℕ → Image → List ℕ
+relaxedCovers theta R h w A = publishedFrom (relaxedChoice theta) [] R h w A
 
 -- The absolute tetrolet coefficients Q, in plane order.
 abbrev pub sizes : ℕ → ℕ → ℕ → (Place → ℤ) → List ℕ

@@ -8,9 +8,9 @@ use lib.IntN.{ℤ, pos, natAbs}
 use lib.ListN.{getD}
 use Rattle.integers.proofs.Index.{index-bound}
 use Rattle.pyramid.specs.Plane.{Image, Fits, analyse, listed}
-use Rattle.pyramid.specs.Places.{tetroletPlaces, at}
+use Rattle.pyramid.specs.Places.{tetroletPlaces}
 use Rattle.pyramid.specs.Ranges.{inRange, InRange}
-use Rattle.pyramid.specs.Slices.{imageOf, sliceOf, pictureOf, coversOf, planeOf}
+use Rattle.pyramid.specs.Slices.{imageOf, sliceOf, pictureOf, planeWith}
 use Rattle.pyramid.proofs.Places.{none, at-cong}
 use Rattle.pyramid.proofs.Ranges.{halved-le, in-range}
 use Rattle.pyramid.proofs.Slices.{Agree, image-slice}
@@ -27,9 +27,10 @@ range-cong R h w f P Q e r = record {
 pub slice-range : (R h w : ℕ) → Fits (suc R) h w → (P : Image) → InRange (suc R) h w P → T (inRange (suc R) h w (imageOf h (sliceOf h w P)))
 slice-range R h w f P r = (ranged R h w (imageOf h (sliceOf h w P))) .1 (range-cong (suc R) h w f P (imageOf h (sliceOf h w P)) (image-slice h w P) r)
 
-module _ (R h w : ℕ) (f : Fits (suc R) h w) (s : List ℕ) (small : (k : ℕ) → k < w * h → getD s k 0 ≤ 4095) where
-  own : InRange (suc R) h w (analyse (suc R) h w (listed (coversOf (suc R) h w s)) (pictureOf h s))
-  own = in-range (suc R) h w f (listed (coversOf (suc R) h w s)) (pictureOf h s) (λ y x k l. (getD s (x * h + y) 0, refl, small (x * h + y) (index-bound x y w h l k)))
+-- the plane of a picture by any coverings
+module _ (R h w : ℕ) (f : Fits (suc R) h w) (cs s : List ℕ) (small : (k : ℕ) → k < w * h → getD s k 0 ≤ 4095) where
+  own : InRange (suc R) h w (analyse (suc R) h w (listed cs) (pictureOf h s))
+  own = in-range (suc R) h w f (listed cs) (pictureOf h s) (λ y x k l. (getD s (x * h + y) 0, refl, small (x * h + y) (index-bound x y w h l k)))
 
-  pub plane-accepted : T (inRange (suc R) h w (imageOf h (planeOf (suc R) h w s)))
-  plane-accepted = slice-range R h w f (analyse (suc R) h w (listed (coversOf (suc R) h w s)) (pictureOf h s)) own
+  pub plane-accepted : T (inRange (suc R) h w (imageOf h (planeWith (suc R) h w cs s)))
+  plane-accepted = slice-range R h w f (analyse (suc R) h w (listed cs) (pictureOf h s)) own

@@ -6,19 +6,20 @@ use native.Mathlib.Nat.{one-mul}
 use lib.ListN.{length, length-append}
 use mathlib.Core.List.{List}
 use Rattle.integers.specs.Sum.{sq, total}
+use Rattle.terms.specs.Terms.{Terms}
 use Rattle.pyramid.specs.Plane.{Fits, numerators, Numbers, allBlocks, halved}
 use Rattle.integers.specs.Lists.{tabulate}
 use Rattle.integers.proofs.Tabulate.{length-tabulate}
 use Rattle.pyramid.specs.Places.{Place, planePlaces, tetroletPlaces, blocksFrom, blockAt, at, sumOver}
-use Rattle.pyramid.specs.Slices.{pictureOf}
-use Rattle.pyramid.specs.Laws.{PyramidLaws, Places, PlaceLaws, Laws}
+use Rattle.pyramid.specs.Slices.{pictureOf, planeWith, coversOf, coversBy}
+use Rattle.pyramid.specs.Laws.{PyramidLaws, Places, PlaceLaws, ChosenLaws, Laws}
 use Rattle.pyramid.proofs.Pyramid.{numerators-sub, numerators-analyse}
 use Rattle.pyramid.proofs.Energy.{lowTotal, energy}
 use Rattle.pyramid.proofs.Ranges.{in-range}
 use Rattle.pyramid.proofs.Sides.{size-laws}
 use Rattle.pyramid.proofs.Bounds.{bounds, rounded, exactly}
-use Rattle.pyramid.proofs.Choose.{covers-length, covers-numbers, covers-least, covers-settled}
-use Rattle.pyramid.proofs.Only.{covers-only}
+use Rattle.pyramid.proofs.Choose.{covers-length, covers-numbers, covers-least, covers-settled, on-length, on-numbers, on-near, on-settled, on-without}
+use Rattle.pyramid.proofs.Only.{covers-only, on-only}
 use Rattle.pyramid.proofs.Places.{All, places-inside}
 use Rattle.pyramid.proofs.Order.{numberIn, plane-inside, number-of, plane-count, entry-at}
 use Rattle.pyramid.proofs.Standing.{level, analyse-sub}
@@ -70,6 +71,16 @@ placed (suc R) h w f l = record {
   tested = ranged R h w;
 }
 
+on-terms : (t : Terms) (R h w : ℕ) → Fits R h w → (s : List ℕ) → ChosenLaws t R h w s
+on-terms t R h w f s = record {
+  lengths = on-length t R h w (pictureOf h s);
+  numbers = on-numbers t R h w (pictureOf h s);
+  near = on-near t R h w f (pictureOf h s);
+  settled = on-settled t R h w f (pictureOf h s);
+  only = on-only t R h w f (pictureOf h s);
+  exactly = exactly R h w f (coversBy t R h w s) (on-numbers t R h w (pictureOf h s)) s;
+}
+
 pub laws : Laws
 laws = record {
   byCoverings = pyramid;
@@ -80,7 +91,9 @@ laws = record {
   least = covers-least;
   settled = λ R h w f s. covers-settled R h w f (pictureOf h s);
   only = λ R h w f s. covers-only R h w f (pictureOf h s);
-  exactly = exactly;
+  exactly = λ R h w f s. exactly R h w f (coversOf R h w s) (covers-numbers R h w (pictureOf h s)) s;
+  onTerms = on-terms;
+  without = λ R h w s. let e = on-without R h w (pictureOf h s) in (e, ap (λ (cs : List ℕ). planeWith R h w cs s) e);
   rounded = rounded;
   sizes = size-laws;
 }

@@ -16,14 +16,13 @@ use Rattle.coverings.specs.Block.{nameOf}
 use Rattle.block.specs.Block.{labelsOf, inverse}
 use Rattle.pyramid.specs.Plane.{Image, Fits, blocks, after, wordAt, band, withLow, mergeOf, analyse, numerators, listed, Numbers, allBlocks, halved}
 use Rattle.pyramid.specs.Places.{tetroletPlaces, placesFrom, at}
-use Rattle.pyramid.specs.Slices.{imageOf, pictureOf, coversOf, planeOf, numeratorsOf, nearest, sampleOf, samplesOf}
+use Rattle.pyramid.specs.Slices.{imageOf, pictureOf, planeWith, numeratorsOf, nearest, sampleOf, samplesOf}
 use Rattle.pyramid.specs.Ranges.{InRange}
 use Rattle.block.proofs.Words.{Good, labelIn}
 use Rattle.pyramid.proofs.Levels.{good-at}
 use Rattle.pyramid.proofs.Pyramid.{first-numbers, other-numbers, numerators-cong, numerators-analyse}
 use Rattle.pyramid.proofs.Places.{none, All, of-places, places-levels}
 use Rattle.pyramid.proofs.Energy.{pow-add}
-use Rattle.pyramid.proofs.Choose.{covers-numbers}
 use Rattle.pyramid.proofs.Slices.{slice-at, image-slice, slice-length}
 use Rattle.block.proofs.Blocks.{inverse-abs}
 
@@ -133,17 +132,14 @@ sample-exact R n l = ap {B = ℕ} (λ (m : ℕ). min m 4095) (go (4 ^ R) (one-le
         let e : 2 * (c * n) + c ≡ n * (2 * c) + c = omega arith in
         ap (λ (m : ℕ). m / (2 * c)) e ∙ mul-add-div-right (omega arith) n c ∙ ap (λ (m : ℕ). n + m) (div-eq-of-lt (omega arith)) ∙ add-zero n
 
-pub exactly : (R h w : ℕ) → Fits R h w → (s : List ℕ) → length s ≡ w * h → ((k : ℕ) → k < w * h → getD s k 0 ≤ 4095) → samplesOf R h w (coversOf R h w s) (planeOf R h w s) ≡ s
-exactly R h w f s len small = ext-getD 0 (samplesOf R h w cs p) s (long ∙ sym len) at-each
+pub exactly : (R h w : ℕ) → Fits R h w → (cs : List ℕ) → Numbers (allBlocks R h w) (listed cs) → (s : List ℕ) → length s ≡ w * h → ((k : ℕ) → k < w * h → getD s k 0 ≤ 4095) → samplesOf R h w cs (planeWith R h w cs s) ≡ s
+exactly R h w f cs ns s len small = ext-getD 0 (samplesOf R h w cs p) s (long ∙ sym len) at-each
   where
     A : Image
     A = pictureOf h s
 
-    cs : List ℕ
-    cs = coversOf R h w s
-
     p : List ℤ
-    p = planeOf R h w s
+    p = planeWith R h w cs s
 
     Y : Image
     Y = numerators R h w (listed cs) (imageOf h p)
@@ -156,8 +152,8 @@ exactly R h w f s len small = ext-getD 0 (samplesOf R h w cs p) s (long ∙ sym 
         getD-map (sampleOf R) (numeratorsOf R h w cs p) (pos 0) 0 k (omega (arith, slice-length h w Y, long))
         ∙ ap (sampleOf R)
         (slice-at h w Y k below
-        ∙ numerators-cong R h w f (listed cs) (covers-numbers R h w A) (imageOf h p) (analyse R h w (listed cs) A) (image-slice h w (analyse R h w (listed cs) A)) (k % h) (k / h) row col
-        ∙ numerators-analyse R h w f (listed cs) (covers-numbers R h w A) A (k % h) (k / h) row col
+        ∙ numerators-cong R h w f (listed cs) ns (imageOf h p) (analyse R h w (listed cs) A) (image-slice h w (analyse R h w (listed cs) A)) (k % h) (k / h) row col
+        ∙ numerators-analyse R h w f (listed cs) ns A (k % h) (k / h) row col
         ∙ ap (λ (m : ℕ). pos (4 ^ R) *ℤ pos (getD s m 0)) (div-add-mod' k h))
         ∙ sample-exact R (getD s k 0) (small k below)
       where

@@ -1,19 +1,23 @@
 -- A rule that is fixed at each block by the coverings listed before fixes the whole list: no other list of coverings is settled. Assumes nothing.
 use mathlib.Core.Path.{_≡_, refl, sym, ap, _∙_, subst, subst⁻¹}
 use mathlib.Core.List.{List, [], _∷_, _++_, append-assoc}
-use Prim.Native.Nat.{ℕ, zero, suc, _+_, _*_, _/_, _%_, _≤_, _<_}
+use Prim.Native.Nat.{ℕ, zero, suc, _+_, _*_, _/_, _%_, _^_, _≤_, _<_}
 use native.Mathlib.Omega.{arith}
 use native.Mathlib.Nat.{div-add-mod'}
+use lib.IntN.{ℤ}
 use lib.ListN.{length, take, drop, length-append, length-drop, take-append-drop}
 use lib.Seq.{getD-append-add, getD-take, take-suc, take-append-add, length-take-le}
 use Rattle.coverings.specs.Rule.{Number}
 use Rattle.block.specs.Block.{pick}
 use Rattle.block.specs.Laws.{Wins}
+use Rattle.terms.specs.Terms.{Terms, within, atLevel}
+use Rattle.terms.specs.Laws.{WinsBy}
+use Rattle.terms.proofs.All as terms
 use Rattle.block.proofs.Pick.{pick-number, pick-wins, pick-cong, wins-once}
 use Rattle.integers.proofs.Index.{index-bound, index-place}
-use Rattle.pyramid.specs.Plane.{Image, Fits, blocks, allBlocks, blockOf, after, bandsOf, Chooser, following, chosenTo, listed, coversAfter, covers, Numbers}
-use Rattle.pyramid.specs.Settled.{EachBlock, Settled}
-use Rattle.pyramid.proofs.Choose.{Reads, Saying, Ruled, each-map, bands-same, after-cong}
+use Rattle.pyramid.specs.Plane.{Image, Fits, blocks, allBlocks, blockOf, after, bandsOf, Chooser, following, chosenTo, listed, coversAfter, covers, coversOn, Numbers}
+use Rattle.pyramid.specs.Settled.{EachBlock, Settled, SettledBy}
+use Rattle.pyramid.proofs.Choose.{Reads, Saying, Ruled, each-map, bands-same, after-cong, byTerms, terms-read}
 
 -- the first n choices, where the covering of each block is the rule's
 module _ (choose : Chooser) (h w : ℕ) (A : Image) (cs : List ℕ) (long : blocks h w ≤ length cs)
@@ -87,9 +91,20 @@ each-numbers S d k (suc R) h w cs A ns s = (
   each-numbers S (suc d) (k + blocks h w) R (h / 2) (w / 2) cs (bandsOf h (after k (listed cs)) A 0) (λ m l. ns m (omega arith)) (s .1),
 )
 
+-- a list of numbers, each of which is said to be what only the rule's choice is, is the rule's
+only-by : (S : Saying) (rule : ℕ → Chooser) → ((r : ℕ) → Reads (rule r)) → ((r : ℕ) (earlier : List ℕ) (v : ℕ → ℤ) (c : ℕ) → Number c → S r earlier v c → c ≡ rule r earlier v)
+    → (R h w : ℕ) → Fits R h w → (A : Image) (cs : List ℕ) → length cs ≡ allBlocks R h w → Numbers (allBlocks R h w) (listed cs) → EachBlock S 0 0 R h w cs A → cs ≡ coversAfter rule 0 [] R h w A
+only-by S rule reads one R h w f A cs long ns s =
+    ruled-only rule reads 0 [] R h w f A cs long
+    (each-map (λ r earlier v c. Number c × S r earlier v c) (Ruled rule) (λ r earlier v c z. one r earlier v c (z .0) (z .1)) 0 0 R h w cs A
+    (each-numbers S 0 0 R h w cs A (λ m l. ns m (omega arith)) s))
+
 pub covers-only : (R h w : ℕ) → Fits R h w → (A : Image) (cs : List ℕ) → length cs ≡ allBlocks R h w → Numbers (allBlocks R h w) (listed cs) → Settled R h w cs A → cs ≡ covers R h w A
-covers-only R h w f A cs long ns s =
-    ruled-only (λ r. pick) (λ r. pick-cong) 0 [] R h w f A cs long
-    (each-map (λ r earlier v c. Number c × ((n : ℕ) → Number n → Wins earlier v c n)) (Ruled (λ r. pick))
-    (λ r earlier v c z. wins-once earlier v c (pick earlier v) (z .1 (pick earlier v) (pick-number earlier v)) (pick-wins earlier v c (z .0))) 0 0 R h w cs A
-    (each-numbers (λ r earlier v c. (n : ℕ) → Number n → Wins earlier v c n) 0 0 R h w cs A (λ m l. ns m (omega arith)) s))
+covers-only =
+    only-by (λ r earlier v c. (n : ℕ) → Number n → Wins earlier v c n) (λ r. pick) (λ r. pick-cong)
+    (λ r earlier v c m z. wins-once earlier v c (pick earlier v) (z (pick earlier v) (pick-number earlier v)) (pick-wins earlier v c m))
+
+pub on-only : (t : Terms) (R h w : ℕ) → Fits R h w → (A : Image) (cs : List ℕ) → length cs ≡ allBlocks R h w → Numbers (allBlocks R h w) (listed cs) → SettledBy t R h w cs A → cs ≡ coversOn t R h w A
+on-only t =
+    only-by (λ r earlier v c. (n : ℕ) → Number n → WinsBy (within (t .tolerance * 2 ^ r)) earlier v c n) (byTerms t) (terms-read t)
+    (λ r. terms.only (atLevel r t))

@@ -11,6 +11,7 @@ use lib.IntN.{ℤ, pos, _*ℤ_}
 use Rattle.coverings.specs.Words.{wordOf}
 use Rattle.coverings.specs.Rule.{Number}
 use Rattle.block.specs.Block.{forward, inverse, pick}
+use Rattle.terms.specs.Terms.{Terms, atLevel, pickTerms}
 
 abbrev pub Image : Type 0
 Image = ℕ → ℕ → ℤ
@@ -130,3 +131,7 @@ coversAfter rule d before (suc R) h w A =
 -- The coverings of a picture: `pick` is the rule of every level.
 abbrev pub covers : ℕ → ℕ → ℕ → Image → List ℕ
 covers R h w A = coversAfter (λ r. pick) 0 [] R h w A
+
+-- Document 02, wish 6: the coverings of a picture on terms, "whose cost at level r is at most the least plus t times 2^r": each level has its own rule.
+abbrev pub coversOn : Terms → ℕ → ℕ → ℕ → Image → List ℕ
+coversOn t R h w A = coversAfter (λ r. pickTerms (atLevel r t)) 0 [] R h w A

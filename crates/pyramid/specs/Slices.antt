@@ -5,7 +5,8 @@ use lib.IntN.{ℤ, pos, negsuc, _+ℤ_, _*ℤ_}
 use lib.ListN.{getD}
 use lib.Signed.{shrZ}
 use Rattle.integers.specs.Lists.{tabulate}
-use Rattle.pyramid.specs.Plane.{Image, analyse, numerators, listed, covers}
+use Rattle.terms.specs.Terms.{Terms}
+use Rattle.pyramid.specs.Plane.{Image, analyse, numerators, listed, covers, coversOn}
 
 -- Document 01: "Samples are 0 to 4,095, stored down columns, as is the plane." The entry in row y, column x of a slice of height h is at x * h + y.
 abbrev pub imageOf : ℕ → List ℤ → Image
@@ -18,12 +19,23 @@ pictureOf h s y x = pos (getD s (x * h + y) 0)
 unfoldable pub sliceOf : ℕ → ℕ → Image → List ℤ
 sliceOf h w A = tabulate (w * h) (λ k. A (k % h) (k / h))
 
+-- The plane of R levels of the picture s, by given coverings.
+abbrev pub planeWith : ℕ → ℕ → ℕ → List ℕ → List ℕ → List ℤ
+planeWith R h w cs s = sliceOf h w (analyse R h w (listed cs) (pictureOf h s))
+
 -- Decomposing R levels gives the coverings, and the plane by these coverings.
 abbrev pub coversOf : ℕ → ℕ → ℕ → List ℕ → List ℕ
 coversOf R h w s = covers R h w (pictureOf h s)
 
 abbrev pub planeOf : ℕ → ℕ → ℕ → List ℕ → List ℤ
-planeOf R h w s = let cs = coversOf R h w s in sliceOf h w (analyse R h w (listed cs) (pictureOf h s))
+planeOf R h w s = planeWith R h w (coversOf R h w s) s
+
+-- The same on terms (document 02, wish 6).
+abbrev pub coversBy : Terms → ℕ → ℕ → ℕ → List ℕ → List ℕ
+coversBy t R h w s = coversOn t R h w (pictureOf h s)
+
+abbrev pub planeBy : Terms → ℕ → ℕ → ℕ → List ℕ → List ℤ
+planeBy t R h w s = planeWith R h w (coversBy t R h w s) s
 
 -- Restoring gives the numerators and the samples.
 abbrev pub numeratorsOf : ℕ → ℕ → ℕ → List ℕ → List ℤ → List ℤ

@@ -7,9 +7,10 @@ use lib.Dec.{T, ltb}
 use lib.IntN.{pos}
 use lib.ListN.{length, getD}
 use Rattle.integers.specs.Sum.{Σℕ, only}
+use Rattle.terms.specs.Terms.{Terms, within}
 use Rattle.pyramid.specs.Plane.{Image, Fits, halved}
 use Rattle.pyramid.specs.Places.{tetroletPlaces, noPlace, at}
-use Rattle.pyramid.specs.Slices.{imageOf, coversOf, planeOf}
+use Rattle.pyramid.specs.Slices.{imageOf, planeWith, coversOf, planeOf, coversBy, planeBy}
 use Rattle.pyramid.specs.Ranges.{inRange}
 use Rattle.quota.specs.Quota.{stays, select, kept, entries, keptOf}
 use Rattle.quota.specs.Claims.{Demand}
@@ -33,8 +34,10 @@ pub record Laws : Type 0 where
   pub selected : (R h w : ℕ) → Fits R h w → (stay : ℕ → Bool) (P : Image) → SelectLaws R h w stay P
   -- Keep leaves the smaller of K and the entries before that are not zero
   pub counted : (R h w K : ℕ) → Fits R h w → (P : Image) → entries R h w (kept R h w K P) ≡ min K (entries R h w P)
-  -- decomposing a picture gives a plane that Keep accepts, and Keep leaves one that restoring accepts
-  pub keepAccepts : (R h w : ℕ) → Fits (suc R) h w → (s : List ℕ) → ((k : ℕ) → k < w * h → getD s k 0 ≤ 4095) → T (inRange (suc R) h w (imageOf h (planeOf (suc R) h w s)))
-  pub restoreAccepts : (R h w : ℕ) → Fits (suc R) h w → (s : List ℕ) → ((k : ℕ) → k < w * h → getD s k 0 ≤ 4095) → (K : ℕ) → T (inRange (suc R) h w (imageOf h (keptOf (suc R) h w K (planeOf (suc R) h w s))))
-  -- the third demand
-  pub demand : (R h w K : ℕ) → Fits R h w → (s : List ℕ) → Demand R h w K s (coversOf R h w s) (planeOf R h w s) (keptOf R h w K (planeOf R h w s))
+  -- decomposing a picture, by whatever coverings, gives a plane that Keep accepts, and Keep leaves one that restoring accepts
+  pub keepAccepts : (R h w : ℕ) → Fits (suc R) h w → (cs s : List ℕ) → ((k : ℕ) → k < w * h → getD s k 0 ≤ 4095) → T (inRange (suc R) h w (imageOf h (planeWith (suc R) h w cs s)))
+  pub restoreAccepts : (R h w : ℕ) → Fits (suc R) h w → (cs s : List ℕ) → ((k : ℕ) → k < w * h → getD s k 0 ≤ 4095) → (K : ℕ) → T (inRange (suc R) h w (imageOf h (keptOf (suc R) h w K (planeWith (suc R) h w cs s))))
+  -- the third demand, on whatever terms
+  pub demand : (t : Terms) (R h w K : ℕ) → Fits R h w → (s : List ℕ) → Demand t R h w K s (coversBy t R h w s) (planeBy t R h w s) (keptOf R h w K (planeBy t R h w s))
+  -- and without them: tolerance 0
+  pub demandWithout : (R h w K : ℕ) → Fits R h w → (s : List ℕ) → Demand (within 0) R h w K s (coversOf R h w s) (planeOf R h w s) (keptOf R h w K (planeOf R h w s))

@@ -39,7 +39,7 @@ fn tell_plane(before: bool, words: &[u8], k: Plane) -> bool {
     tell(t, b"write", planes::write(k, 256))
 }
 
-// The same after decomposing.
+// The same after decomposing, without a tolerance and with 1.
 fn tell_frame(words: &[u8], k: Plane) {
     let p = Picture {
         height: k.height,
@@ -52,7 +52,8 @@ fn tell_frame(words: &[u8], k: Plane) {
         picture: [0; 65],
     };
     let d = tell(true, b"decompose", pictures::decompose(words, p));
-    end(tell_plane(d, words, k));
+    let t = tell(d, b"within", pictures::decompose_within(words, p, 1));
+    end(tell_plane(t, words, k));
 }
 
 pub fn frame(

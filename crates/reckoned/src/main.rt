@@ -1,8 +1,8 @@
 // Runs the entries beside the plain second implementation, which shares nothing with them: first the examples of document 01's "Reckoned by hand" that
-// are not in the proved table, a usage list, a tie and a test image, then both sides of every limit of its table of refusals, by number. A line has what was asked, for each entry its name,
-// the number of its answer and that of the second implementation, 0 where the call is accepted, and whether the two agree in all that they answer and
-// leave in the slices. What is proved says that code and definition have the same limits; the stored output of this program says which. Texts that are
-// read are the part of `reckoned_text`.
+// are not in the proved table, a usage list, a tie, a test image and tolerances, then both sides of every limit of its table of refusals, by number. A line has
+// what was asked, for each entry its name, the number of its answer and that of the second implementation, 0 where the call is accepted, and whether the two
+// agree in all that they answer and leave in the slices. What is proved says that code and definition have the same limits; the stored output of this program
+// says which. Texts that are read are the part of `reckoned_text`.
 use pairs::answers::heading;
 
 mod frames;
@@ -11,6 +11,7 @@ mod large;
 mod lists;
 mod long;
 mod pictures;
+mod tolerances;
 mod values;
 
 // The blocks of a picture are told by the number of coverings that its plane takes.
@@ -28,6 +29,7 @@ fn examples(words: &[u8]) {
     lists::usage_order();
     pictures::ties(words);
     generated::first();
+    tolerances::steps(words);
 }
 
 fn frame(words: &[u8]) {
@@ -81,6 +83,11 @@ fn rooms() {
     lists::usage_rooms();
 }
 
+fn limits(words: &[u8]) {
+    heading(b"13 tolerance");
+    tolerances::limits(words);
+}
+
 fn main() {
     let mut words = [0u8; 1872];
     plain::tiles::list_words(&mut words);
@@ -90,4 +97,5 @@ fn main() {
     contents(&words);
     numbers();
     rooms();
+    limits(&words);
 }

@@ -1,9 +1,12 @@
-// Decomposing a flat picture, or one of 8 by 8 whose second level has a tie, by the coder and by the plain second implementation.
+// Decomposing a picture, with a tolerance or without one, by the coder and by the plain second implementation: a flat one, and one of 8 by 8 whose second
+// level has a tie.
 use cases::answers::outcome;
 use cases::safe::put_sample;
 use pairs::answers::Pair;
+use pairs::answers::end;
 use pairs::answers::numbered;
 use pairs::answers::put;
+use pairs::answers::tell;
 use pairs::answers::tell_one;
 use pairs::front;
 use pairs::left::Left;
@@ -72,7 +75,63 @@ pub fn decompose(words: &[u8], k: Picture) -> Pair {
     pair(by_coder(k), by_plain(words, k))
 }
 
-// A picture of 4 by 4 and 1 level, in slices of these lengths.
+pub fn within_by_coder(k: Picture, tolerance: u64) -> Left {
+    let samples = k.picture;
+    let mut plane = [7i64; 65];
+    let mut coverings = [9u8; 6];
+    let mut scratch = [-3i64; 65];
+    let a = coder::decompose_within(
+        k.height,
+        k.width,
+        k.levels,
+        tolerance,
+        front::samples(&samples, k.samples),
+        front::values_mut(&mut plane, k.plane),
+        front::bytes_mut(&mut coverings, k.coverings),
+        front::values_mut(&mut scratch, k.scratch),
+    );
+    Left {
+        answer: numbered(refusals::code(a)),
+        values: plane,
+        samples: samples,
+        coverings: coverings,
+        scratch: scratch,
+    }
+}
+
+pub fn within_by_plain(words: &[u8], k: Picture, tolerance: u64) -> Left {
+    let samples = k.picture;
+    let mut plane = [7i64; 65];
+    let mut coverings = [9u8; 6];
+    let mut scratch = [-3i64; 65];
+    let n = plain::pyramid::decompose_within(
+        words,
+        k.height,
+        k.width,
+        k.levels,
+        tolerance,
+        front::samples(&samples, k.samples),
+        front::values_mut(&mut plane, k.plane),
+        front::bytes_mut(&mut coverings, k.coverings),
+        front::values_mut(&mut scratch, k.scratch),
+    );
+    Left {
+        answer: numbered(n),
+        values: plane,
+        samples: samples,
+        coverings: coverings,
+        scratch: scratch,
+    }
+}
+
+pub fn decompose_within(words: &[u8], k: Picture, tolerance: u64) -> Pair {
+    pair(
+        within_by_coder(k, tolerance),
+        within_by_plain(words, k, tolerance),
+    )
+}
+
+// A picture of 4 by 4 and 1 level, in slices of these lengths, without a tolerance and with the largest.
 pub fn flat(
     words: &[u8],
     samples: usize,
@@ -96,7 +155,8 @@ pub fn flat(
         scratch: scratch,
         picture: [sample; 65],
     };
-    tell_one(b"decompose", decompose(words, k));
+    let d = tell(true, b"decompose", decompose(words, k));
+    end(tell(d, b"within", decompose_within(words, k, 4095)));
 }
 
 // Document 02, wish 5: a tie is settled by "how often a covering was chosen in all earlier blocks of the picture, level 1 first". The first two samples of the

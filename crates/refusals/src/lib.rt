@@ -17,6 +17,7 @@ pub enum Refusal {
     Buffer, // 10, tray
     Sequence, // 11, sequence
     Bench, // 12, bench
+    Tolerance, // 13, tolerance
 }
 
 // The answer of an entry that gives nothing but what it leaves in the slices.
@@ -48,6 +49,7 @@ pub fn number(r: Refusal) -> u8
         Refusal::Buffer => 10,
         Refusal::Sequence => 11,
         Refusal::Bench => 12,
+        Refusal::Tolerance => 13,
     }
 }
 

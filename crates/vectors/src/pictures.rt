@@ -1,17 +1,79 @@
-// Pictures, decomposed by the coder and by the plain second implementation.
-use case_planes::decompose;
+// Pictures, decomposed without a tolerance and with one, by the coder and by the plain second implementation.
 use cases::inputs::Case;
 use cases::inputs::case_at;
 use cases::inputs::fill_picture;
+use cases::inputs::smaller;
 use cases::tally::Tally;
 use cases::tally::Verdict;
 use cases::tally::same_bytes;
 use cases::tally::same_values;
 
-// The second implementation on the front parts of the slices.
-fn decompose_plainly(
+// Who decomposes: the coder or the second implementation, without a tolerance or with one.
+enum Way {
+    Coder,
+    CoderWithin(u64),
+    Plain,
+    PlainWithin(u64),
+}
+
+fn decompose(
     words: &[u8],
     k: Case,
+    way: Way,
+    samples: &[u16],
+    plane: &mut [i64],
+    coverings: &mut [u8],
+    scratch: &mut [i64],
+) -> u32 {
+    match way {
+        Way::Coder => refusals::code(coder::decompose(
+            k.height,
+            k.width,
+            k.levels,
+            samples,
+            plane,
+            coverings,
+            scratch,
+        )),
+        Way::CoderWithin(tolerance) => refusals::code(coder::decompose_within(
+            k.height,
+            k.width,
+            k.levels,
+            tolerance,
+            samples,
+            plane,
+            coverings,
+            scratch,
+        )),
+        Way::Plain => plain::pyramid::decompose(
+            words,
+            k.height,
+            k.width,
+            k.levels,
+            samples,
+            plane,
+            coverings,
+            scratch,
+        ),
+        Way::PlainWithin(tolerance) => plain::pyramid::decompose_within(
+            words,
+            k.height,
+            k.width,
+            k.levels,
+            tolerance,
+            samples,
+            plane,
+            coverings,
+            scratch,
+        ),
+    }
+}
+
+// The same on the front parts of the slices. 1000 where they are too short, which no case of a group is.
+fn decompose_front(
+    words: &[u8],
+    k: Case,
+    way: Way,
     samples: &[u16],
     plane: &mut [i64],
     coverings: &mut [u8],
@@ -20,22 +82,21 @@ fn decompose_plainly(
     let n = k.n;
     let b = k.b;
     if samples.len() < n {
-        return 2000;
+        return 1000;
     }
     if plane.len() < n {
-        return 2000;
+        return 1000;
     }
     if scratch.len() < n {
-        return 2000;
+        return 1000;
     }
     if coverings.len() < b {
-        return 2000;
+        return 1000;
     }
-    plain::pyramid::decompose(
+    decompose(
         words,
-        k.height,
-        k.width,
-        k.levels,
+        k,
+        way,
         &samples[..n],
         &mut plane[..n],
         &mut coverings[..b],
@@ -43,18 +104,27 @@ fn decompose_plainly(
     )
 }
 
-// Both, on slices that hold other values before.
-fn compare(words: &[u8], k: Case, samples: &[u16]) -> Verdict {
+// Two ways, on slices that hold other values before.
+fn compare(words: &[u8], k: Case, way: Way, way2: Way, samples: &[u16]) -> Verdict {
     let mut plane = [7i64; 1024];
     let mut coverings = [9u8; 512];
     let mut scratch = [-3i64; 1024];
     let mut plane2 = [7i64; 1024];
     let mut coverings2 = [9u8; 512];
     let mut scratch2 = [-3i64; 1024];
-    let a = decompose(k, samples, &mut plane, &mut coverings, &mut scratch);
-    let b = decompose_plainly(
+    let a = decompose_front(
         words,
         k,
+        way,
+        samples,
+        &mut plane,
+        &mut coverings,
+        &mut scratch,
+    );
+    let b = decompose_front(
+        words,
+        k,
+        way2,
         samples,
         &mut plane2,
         &mut coverings2,
@@ -66,19 +136,65 @@ fn compare(words: &[u8], k: Case, samples: &[u16]) -> Verdict {
     cases::tally::judged(a, b, p && c && s)
 }
 
-fn one_picture(words: &[u8], k: Case) -> Verdict {
+fn one_picture(words: &[u8], k: Case, way: Way, way2: Way) -> Verdict {
+    if 1024 < k.n {
+        return Verdict::Differs;
+    }
+    if 512 < k.b {
+        return Verdict::Differs;
+    }
     let mut samples = [0u16; 1024];
     fill_picture(k, &mut samples);
-    compare(words, k, &samples)
+    compare(words, k, way, way2, &samples)
 }
 
-// Every height with every width, levels from none to five, every kind of picture.
+// Without a tolerance: every height with every width, levels from none to five, every kind of picture.
 pub fn group(words: &[u8]) -> Tally {
     let mut t = cases::tally::none();
     let mut c: usize = 0;
     while c < 15360 {
         let k = case_at(c, 8);
-        let v = one_picture(words, k);
+        let v = one_picture(words, k, Way::Coder, Way::Plain);
+        t = cases::tally::counted_case(t, k, v);
+        c += 1;
+    }
+    t
+}
+
+// The tolerances: none, one, two of some size, the largest; one more, and the largest number.
+fn tolerance(which: usize, seed: usize) -> u64 {
+    match which {
+        0 => 0,
+        1 => 1,
+        2 => (seed % 32) as u64,
+        3 => (seed % 1024) as u64,
+        4 => 4095,
+        5 => 4096,
+        _ => 18446744073709551615,
+    }
+}
+
+// The same pictures, each with every tolerance, smaller ones in place of the slow.
+pub fn within_group(words: &[u8]) -> Tally {
+    let mut t = cases::tally::none();
+    let mut c: usize = 0;
+    while c < 21504 {
+        let k = smaller(case_at(c / 7, 8));
+        let some = tolerance(c % 7, k.seed);
+        let v = one_picture(words, k, Way::CoderWithin(some), Way::PlainWithin(some));
+        t = cases::tally::counted_case(t, k, v);
+        c += 1;
+    }
+    t
+}
+
+// The coder with tolerance 0 beside the coder without one.
+pub fn zero_group(words: &[u8]) -> Tally {
+    let mut t = cases::tally::none();
+    let mut c: usize = 0;
+    while c < 15360 {
+        let k = case_at(c, 8);
+        let v = one_picture(words, k, Way::CoderWithin(0), Way::Coder);
         t = cases::tally::counted_case(t, k, v);
         c += 1;
     }

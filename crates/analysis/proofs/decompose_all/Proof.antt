@@ -1,29 +1,29 @@
 -- `analysis::decompose_all` meets its contract: the descent of proofs/Descend.antt. Assumes nothing.
 use mathlib.Core.Path.{_≡_, sym, ap, _∙_, subst, subst⁻¹}
 use mathlib.Core.List.{List}
-use Prim.Native.Nat.{ℕ, suc, _+_, _*_, _-_, _/_, _<_, _≤_}
+use Prim.Native.Nat.{ℕ, suc, _+_, _*_, _-_, _/_, _^_, _<_, _≤_}
 use native.Mathlib.Nat.{le-trans, le-of-eq}
 use native.Mathlib.Omega.{arith}
 use lib.IntN.{ℤ, pos}
 use lib.ListN.{length, replicate}
 use borrow.Author.Needs.{needs}
 use Rattle.tables.specs.Tables.{placementTable, fourTable, cellTable}
-use Rattle.block.specs.Block.{pick}
+use Rattle.terms.specs.Terms.{within}
 use Rattle.pyramid.specs.Plane.{Chooser, allBlocks}
 use Rattle.analysis.proofs.Bandwise.{blocks-few}
-use Rattle.analysis.proofs.Descend.{Descended, worked-region, worked-room, worked-few, worked-end, descend-start, descend-small, descend-step, descend-covers}
-use Rattle.block.proofs.Pick.{pick-cong}
+use Rattle.analysis.proofs.Descend.{Descended, worked-region, worked-room, worked-few, worked-end, descend-start, descend-small, descend-step, descend-covers, allowed-first, allowed-next, allowed-small, levelled-as}
+use Rattle.pyramid.proofs.Choose.{byTerms, terms-read}
 use Rattle.pyramid.proofs.Sides.{sized, sized-fits, side-small, levels-small}
 use Rattle.analysis.proofs.decompose_all.Statement.{statement}
 use Rattle.analysis.proofs.decompose_all.Tie as tie
 
 abbrev Inv-loop : tie.InvT-loop
-Inv-loop height width levels samples plane₀ coverings₀ scratch₀ placements fours cells tall₀ wide₀ first₀ left₀ chosen₀ plane coverings scratch tall wide first left chosen =
+Inv-loop height width levels samples plane₀ coverings₀ scratch₀ tolerance placements fours cells tall₀ wide₀ first₀ left₀ chosen₀ slack₀ plane coverings scratch tall wide first left chosen slack =
     (levels ≤ 8) × (height ≤ 512) × (width ≤ 512) × (placements ≡ placementTable) × (fours ≡ fourTable) × (cells ≡ cellTable) × (length plane ≡ width * height) × (length coverings ≡ allBlocks levels height width)
-    × (length scratch ≡ width * height) × Descended (λ r. pick) levels height width samples plane coverings (chosen .counts) tall wide first left
+    × (length scratch ≡ width * height) × Descended (byTerms (within tolerance)) levels height width samples plane coverings (chosen .counts) tall wide first left × (tolerance ≤ 4095) × (slack ≡ tolerance * 2 ^ suc (levels - left))
 
 abbrev μ-loop : tie.MeasureT-loop
-μ-loop height width levels samples plane₀ coverings₀ scratch₀ placements fours cells tall₀ wide₀ first₀ left₀ chosen₀ plane coverings scratch tall wide first left chosen =
+μ-loop height width levels samples plane₀ coverings₀ scratch₀ tolerance placements fours cells tall₀ wide₀ first₀ left₀ chosen₀ slack₀ plane coverings scratch tall wide first left chosen slack =
     left
 
 -- the descent with a level to go
@@ -51,6 +51,9 @@ widen-requires c κs = c .before .before .before .before .before .before .pre .1
 new-requires : tie.Need-new-requires Inv-loop μ-loop
 new-requires c κs = search needs
 
+mul-slack : tie.Need-mul-slack Inv-loop μ-loop
+mul-slack c = omega (arith, c .before .before .before .before .before .before .before .before .before .pre .1 .1 .1)
+
 loop-holds : tie.Need-loop-holds Inv-loop μ-loop
 loop-holds c =
     let s = c .before .before .before .before .before .before .before .before .before in
@@ -64,8 +67,10 @@ loop-holds c =
       c .before .before .widen .kept .1 .0 ∙ s .pre .1 .0 .1,
       s .pre .1 .0 .2,
       s .pre .1 .0 .3,
-      subst⁻¹ (λ (p : List ℤ). Descended (λ r. pick) (s .args .levels) (s .args .height) (s .args .width) (s .args .samples .now) p (s .args .coverings .now) (c .new .result .counts) (s .args .height) (s .args .width) 0 (s .args .levels)) (c .before .before .widen .ensures)
-          (descend-start (λ r. pick) (s .args .levels) (s .args .height) (s .args .width) (s .args .samples .now) (s .args .coverings .now) _ (sized-fits z) (s .pre .1 .1) (c .new .ensures)),
+      subst⁻¹ (λ (p : List ℤ). Descended (byTerms (within (s .args .tolerance))) (s .args .levels) (s .args .height) (s .args .width) (s .args .samples .now) p (s .args .coverings .now) (c .new .result .counts) (s .args .height) (s .args .width) 0 (s .args .levels)) (c .before .before .widen .ensures)
+          (descend-start (byTerms (within (s .args .tolerance))) (s .args .levels) (s .args .height) (s .args .width) (s .args .samples .now) (s .args .coverings .now) _ (sized-fits z) (s .pre .1 .1 .0) (c .new .ensures)),
+      s .pre .1 .1 .1,
+      allowed-first (s .args .tolerance) (s .args .levels),
     )
 
 forward-level-requires : tie.Need-forward-level-requires Inv-loop μ-loop
@@ -73,7 +78,7 @@ forward-level-requires c κs =
     let s = c .before .before .before .before .before .before .before .before .before .before .before .before .before .before .before .before .before in
     let inv = c .before .before .before .before .before .before .before .loop .inv in
     let d = next (c .before .before .before .before .before .before .before .loop .left) (omega arith) (inv .9) in
-    ((inv .3, inv .4, inv .5), (worked-region _ _ (inv .1) (inv .2) (inv .6) (inv .8) (d .worked), rw (inv .7) (worked-room _ _ _ _ _ _ _ _ _ _ _ (d .worked)), descend-small (inv .0) d, worked-few _ _ _ _ _ _ _ _ _ _ _ (inv .0) (inv .1) (inv .2) (d .worked), d .counted))
+    ((inv .3, inv .4, inv .5), (worked-region _ _ (inv .1) (inv .2) (inv .6) (inv .8) (d .worked), rw (inv .7) (worked-room _ _ _ _ _ _ _ _ _ _ _ (d .worked)), descend-small (inv .0) d, worked-few _ _ _ _ _ _ _ _ _ _ _ (inv .0) (inv .1) (inv .2) (d .worked), d .counted, allowed-small _ _ _ (c .before .before .before .before .before .before .before .loop .left) (inv .10) (inv .0) (inv .11)))
 
 copy-rectangle-requires : tie.Need-copy-rectangle-requires Inv-loop μ-loop
 copy-rectangle-requires c κs =
@@ -94,6 +99,11 @@ add-first c =
     let d = next (c .before .before .before .before .before .before .before .before .before .before .before .before .before .before .before .loop .left) (omega arith) (inv .9) in
     omega (arith, worked-room _ _ _ _ _ _ _ _ _ _ _ (d .worked), inv .7, c .before .before .before .before .before .before .before .before .before .before .before .before .before .before .before .before .before .before .before .before .before .before .before .before .before .good .1 .1 .1 .1 .1 .0, c .before .before .before .before .before .before .before .before .before .before .before .before .before .before .before .before .before .before .before .before .before .before .before .before .before .pre .1 .0 .2)
 
+mul-slack-2 : tie.Need-mul-slack-2 Inv-loop μ-loop
+mul-slack-2 c =
+    let inv = c .before .before .before .before .before .before .before .before .before .before .before .before .before .before .before .loop .inv in
+    omega (arith, allowed-small _ _ _ (c .before .before .before .before .before .before .before .before .before .before .before .before .before .before .before .loop .left) (inv .10) (inv .0) (inv .11))
+
 sub-left : tie.Need-sub-left Inv-loop μ-loop
 sub-left c = omega arith
 
@@ -105,6 +115,7 @@ loop-again c =
     let s = c .before .before .before .before .before .before .before .before .before .before .before .before .before .before .before .before .before .before .before .before .before .before .before .before .before in
     let inv = c .before .before .before .before .before .before .before .before .before .before .before .before .before .before .before .loop .inv in
     let d = next (c .before .before .before .before .before .before .before .before .before .before .before .before .before .before .before .loop .left) (omega arith) (inv .9) in
+    let done-is : s .args .levels - c .before .before .before .before .before .before .before .before .before .before .before .before .before .before .before .loop .left ≡ d .done = omega (arith, d .worked .all) in
     let kept = c .before .before .before .before .before .before .before .forward-level .kept in (
       inv .0,
       inv .1,
@@ -115,9 +126,11 @@ loop-again c =
       c .before .copy-rectangle .kept .1 .0 ∙ inv .6,
       kept .1 .1 .1 .1 .1 .1 .1 .1 .0 ∙ inv .7,
       kept .1 .1 .1 .1 .1 .1 .1 .1 .1 .0 ∙ inv .8,
-      subst⁻¹ (λ (p : List ℤ). Descended (λ r. pick) (s .args .levels) (s .args .height) (s .args .width) (s .args .samples .now) p (c .before .before .before .before .before .before .before .forward-level .last .1 .1 .1 .1 .1 .1 .1 .1 .0) (c .before .before .before .before .before .before .before .forward-level .result .counts) (c .before .before .before .before .before .before .before .before .before .before .before .before .before .before .before .loop .tall / 2) (c .before .before .before .before .before .before .before .before .before .before .before .before .before .before .before .loop .wide / 2)
+      subst⁻¹ (λ (p : List ℤ). Descended (byTerms (within (s .args .tolerance))) (s .args .levels) (s .args .height) (s .args .width) (s .args .samples .now) p (c .before .before .before .before .before .before .before .forward-level .last .1 .1 .1 .1 .1 .1 .1 .1 .0) (c .before .before .before .before .before .before .before .forward-level .result .counts) (c .before .before .before .before .before .before .before .before .before .before .before .before .before .before .before .loop .tall / 2) (c .before .before .before .before .before .before .before .before .before .before .before .before .before .before .before .loop .wide / 2)
           (c .before .before .before .before .before .before .before .before .before .before .before .before .before .before .before .loop .first + c .before .before .before .before .before .before .before .before .before .before .before .before .before .before .before .loop .wide / 4 * (c .before .before .before .before .before .before .before .before .before .before .before .before .before .before .before .loop .tall / 4)) (c .before .before .before .before .before .before .before .before .before .before .before .before .before .before .before .loop .left - 1)) (c .before .copy-rectangle .ensures)
-          (descend-step (λ r. pick) (λ r. pick-cong) _ _ _ _ _ _ _ _ _ _ _ d _ _ _ (inv .6) (rw (inv .7) (worked-room _ _ _ _ _ _ _ _ _ _ _ (d .worked))) (c .before .before .before .before .before .before .before .forward-level .ensures)),
+          (descend-step (byTerms (within (s .args .tolerance))) (terms-read (within (s .args .tolerance))) _ _ _ _ _ _ _ _ _ _ _ d _ _ _ (inv .6) (rw (inv .7) (worked-room _ _ _ _ _ _ _ _ _ _ _ (d .worked))) (levelled-as (inv .11 ∙ ap (λ (n : ℕ). s .args .tolerance * 2 ^ suc n) done-is) (c .before .before .before .before .before .before .before .forward-level .ensures))),
+      inv .10,
+      allowed-next (s .args .tolerance) _ (s .args .levels) (c .before .before .before .before .before .before .before .before .before .before .before .before .before .before .before .loop .left) (omega arith) (omega (arith, inv .9 .worked .all)) (inv .11),
     )
 
 clear-requires : tie.Need-clear-requires Inv-loop μ-loop
@@ -150,12 +163,14 @@ decompose-all-spec =
     cells-requires
     widen-requires
     new-requires
+    mul-slack
     loop-holds
     forward-level-requires
     copy-rectangle-requires
     mul-first
     add-first
     sub-left
+    mul-slack-2
     loop-less
     loop-again
     clear-requires

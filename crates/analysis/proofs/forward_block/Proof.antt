@@ -7,10 +7,10 @@ use lib.ListN.{length, getD}
 use borrow.Author.Needs.{needs}
 use lib.IntN.{ℤ}
 use Rattle.slices.specs.Stores.{scatter}
-use Rattle.block.specs.Block.{pick}
+use Rattle.terms.specs.Terms.{within, pickTerms}
 use Rattle.kernel.specs.Kernel.{at, Within, forwardOf}
 use Rattle.grid.specs.Grid.{bandPlace}
-use Rattle.block.proofs.Pick.{pick-cong}
+use Rattle.terms.proofs.All.{reads}
 use Rattle.analysis.proofs.Bandwise.{cells-inside, begins-inside, start-small, values-small, coded}
 use Rattle.analysis.proofs.forward_block.Statement.{statement}
 use Rattle.analysis.proofs.forward_block.Tie as tie
@@ -33,7 +33,7 @@ cells-of-requires c κs = cells-inside (c .pre .1 .0) (c .args .i) (c .args .j) 
 choose-requires : tie.Need-choose-requires
 choose-requires c κs =
     let s = c .before in
-    (s .pre .0 .0, s .pre .0 .1, subst⁻¹ (Within (2 ^ 40)) (c .cells-of .ensures) (values-small (s .pre .1 .0) (s .args .i) (s .args .j) (s .pre .1 .1) (s .pre .1 .2) (s .args .image .now) (s .pre .1 .3)))
+    (s .pre .0 .0, s .pre .0 .1, subst⁻¹ (Within (2 ^ 40)) (c .cells-of .ensures) (values-small (s .pre .1 .0) (s .args .i) (s .args .j) (s .pre .1 .1) (s .pre .1 .2) (s .args .image .now) (s .pre .1 .3)), s .pre .1 .4)
 
 forward-requires : tie.Need-forward-requires
 forward-requires c κs =
@@ -59,8 +59,8 @@ returns c =
     let results = c .before .before .before .before .forward .ensures in
     let begins = c .before .before .before .starts .ensures in
     let r = c .before .before .before .before .before .choose .result in
-    coded (s .pre .1 .0) (s .args .i) (s .args .j) (s .pre .1 .1) (s .pre .1 .2) pick pick-cong (s .args .usage .counts) (s .args .image .now) r (s .args .out .now) _ (picked .0)
-    (λ earlier e. picked .1 earlier e ∙ ap (λ (l : List ℤ). pick earlier (at l)) v)
+    coded (s .pre .1 .0) (s .args .i) (s .args .j) (s .pre .1 .1) (s .pre .1 .2) (pickTerms (within (s .args .slack))) (reads (within (s .args .slack))) (s .args .usage .counts) (s .args .image .now) r (s .args .out .now) _ (picked .0)
+    (λ earlier e. picked .1 earlier e ∙ ap (λ (l : List ℤ). pickTerms (within (s .args .slack)) earlier (at l)) v)
     (c .before .put-results .ensures ∙ λ t. scatter (bandPlace (s .args .height) (begins t)) (at ((results ∙ ap (forwardOf r) v) t)) 16 (s .args .out .now))
 
 pub forward-block-spec : {M : Type 1} → statement M

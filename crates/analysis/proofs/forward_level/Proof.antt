@@ -4,7 +4,7 @@ use Prim.Native.Nat.{_+_, _-_, _/_, _<_}
 use native.Mathlib.Omega.{arith}
 use lib.ListN.{length, length-set}
 use borrow.Author.Needs.{needs}
-use Rattle.block.specs.Block.{pick}
+use Rattle.terms.specs.Terms.{within, pickTerms}
 use Rattle.pyramid.specs.Plane.{blocks}
 use Rattle.pyramid.specs.Slices.{imageOf}
 use Rattle.analysis.proofs.Bandwise.{region-in, blocks-few}
@@ -13,25 +13,25 @@ use Rattle.analysis.proofs.forward_level.Statement.{statement}
 use Rattle.analysis.proofs.forward_level.Tie as tie
 
 abbrev Inv-loop : tie.InvT-loop
-Inv-loop placements fours cells image height tall wide first coverings₀ out₀ rows count usage₀ k₀ i₀ j₀ coverings out usage k i j =
-    (length coverings ≡ length coverings₀) × (length out ≡ length out₀) × (rows ≡ tall / 4) × (count ≡ blocks tall wide) × Walked pick height tall wide first (imageOf height image) coverings₀ coverings out (usage .counts) k i j
+Inv-loop placements fours cells image height tall wide first coverings₀ out₀ slack rows count usage₀ k₀ i₀ j₀ coverings out usage k i j =
+    (length coverings ≡ length coverings₀) × (length out ≡ length out₀) × (rows ≡ tall / 4) × (count ≡ blocks tall wide) × Walked (pickTerms (within slack)) height tall wide first (imageOf height image) coverings₀ coverings out (usage .counts) k i j
 
 abbrev μ-loop : tie.MeasureT-loop
-μ-loop placements fours cells image height tall wide first coverings₀ out₀ rows count usage₀ k₀ i₀ j₀ coverings out usage k i j =
+μ-loop placements fours cells image height tall wide first coverings₀ out₀ slack rows count usage₀ k₀ i₀ j₀ coverings out usage k i j =
     count - k
 
 mul-count : tie.Need-mul-count Inv-loop μ-loop
 mul-count c = omega (arith, blocks-few (c .before .pre .1 .0))
 
 loop-holds : tie.Need-loop-holds Inv-loop μ-loop
-loop-holds c = (refl, refl, refl, refl, walk-start pick _ _ _ _ _ _ _ _ (c .before .pre .1 .4))
+loop-holds c = (refl, refl, refl, refl, walk-start (pickTerms (within (c .before .args .slack))) _ _ _ _ _ _ _ _ (c .before .pre .1 .4))
 
 forward-block-requires : tie.Need-forward-block-requires Inv-loop μ-loop
 forward-block-requires c κs =
     let s = c .before .before .before .before in
     let inv = c .before .before .loop .inv in
     let l : c .before .before .loop .k < blocks (s .args .tall) (s .args .wide) = omega arith in
-    (s .pre .0, (region-in (s .pre .1 .0) (inv .1), inv .4 .stood .row l, col-in (s .pre .1 .0) _ _ _ _ _ _ (inv .4 .stood) l, s .pre .1 .2))
+    (s .pre .0, (region-in (s .pre .1 .0) (inv .1), inv .4 .stood .row l, col-in (s .pre .1 .0) _ _ _ _ _ _ (inv .4 .stood) l, s .pre .1 .2, s .pre .1 .5))
 
 add-coverings : tie.Need-add-coverings Inv-loop μ-loop
 add-coverings c = omega (arith, c .before .before .before .before .before .before .pre .1 .1, c .before .before .before .before .before .before .good)

@@ -16,7 +16,7 @@ cells-requires : tie.Need-cells-requires
 cells-requires c κs = search needs
 
 choose-requires : tie.Need-choose-requires
-choose-requires c κs = (c .before .before .before .before .placements .ensures, c .before .before .before .fours .ensures, λ a h. omega (arith, c .before .before .before .before .before .pre a h))
+choose-requires c κs = (c .before .before .before .before .placements .ensures, c .before .before .before .fours .ensures, λ a h. omega (arith, c .before .before .before .before .before .pre .0 a h), omega (arith, c .before .before .before .before .before .pre .1))
 
 slice-aggregate-write-all : tie.Need-slice-aggregate-write-all
 slice-aggregate-write-all c = search needs
@@ -39,7 +39,7 @@ write-all-requires-2 c κs = search needs
 forward-requires : tie.Need-forward-requires
 forward-requires c κs =
     let o = c .before .before .before .before .before .before in
-    (o .before .before .before .cells .ensures, o .choose .ensures .0, λ a h. omega (arith, o .before .before .before .before .before .before .pre a h))
+    (o .before .before .before .cells .ensures, o .choose .ensures .0, λ a h. omega (arith, o .before .before .before .before .before .before .pre .0 a h))
 
 show-all-requires : tie.Need-show-all-requires
 show-all-requires c κs = search needs
@@ -55,7 +55,7 @@ inverse-requires c κs =
     let f = c .before .before .before .before in
     let o = f .before .before .before .before .before .before .before in
     let s = o .before .before .before .before .before .before in
-    (o .before .before .before .cells .ensures, o .choose .ensures .0, λ a h. rw (f .forward .ensures) (forward-within (o .choose .result) (2 ^ 38) (s .args .v) (s .pre) a h))
+    (o .before .before .before .cells .ensures, o .choose .ensures .0, λ a h. rw (f .forward .ensures) (forward-within (o .choose .result) (2 ^ 38) (s .args .v) (s .pre .0) a h))
 
 show-all-requires-2 : tie.Need-show-all-requires-2
 show-all-requires-2 c κs = search needs

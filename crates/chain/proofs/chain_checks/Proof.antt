@@ -38,29 +38,37 @@ all-samples-requires c κs = tt
 returns-3 : tie.Need-returns-3
 returns-3 c = let z = good (c .before .before .before .before) in rw (z .sided, z .deep, ← c .before .before .before .count-blocks .ensures .0, c .before .before .if1 .left, ← c .before .all-samples .ensures, c .if2 .taken)
 
-cast-most-entries : tie.Need-cast-most-entries
-cast-most-entries c = omega (arith, good (c .before .before .before .before) .tall)
-
-cast-most-entries-2 : tie.Need-cast-most-entries-2
-cast-most-entries-2 c = omega (arith, good (c .before .before .before .before) .wide)
-
-cast-most-entries-3 : tie.Need-cast-most-entries-3
-cast-most-entries-3 c = omega (arith, good (c .before .before .before .before) .few)
-
-most-entries-requires : tie.Need-most-entries-requires
-most-entries-requires c κs = let z = good (c .before .before .before .before) in (z .sided, z .deep)
+largest-tolerance-requires : tie.Need-largest-tolerance-requires
+largest-tolerance-requires c κs = tt
 
 returns-4 : tie.Need-returns-4
 returns-4 c =
-    let a = c .before .before .before .before .before .before .before .before .before .before .before .before .args in
     let z = good (c .before .before .before .before .before .before) in
-    rw (z .sided, z .deep, ← c .before .before .before .before .before .count-blocks .ensures .0, c .before .before .before .before .if1 .left, ← c .before .before .before .all-samples .ensures, c .before .before .if2 .left, lt-ltb (quotaLimit (a .height) (a .width) (a .levels)) (a .quota) (omega (arith, c .before .most-entries .ensures .0, c .if3 .taken)))
+    rw (z .sided, z .deep, ← c .before .before .before .before .before .count-blocks .ensures .0, c .before .before .before .before .if1 .left, ← c .before .before .before .all-samples .ensures, c .before .before .if2 .left, lt-ltb 4095 (c .before .before .before .before .before .before .before .before .before .before .before .before .args .tolerance) (omega (arith, c .before .largest-tolerance .ensures .0, c .if3 .taken)))
+
+cast-most-entries : tie.Need-cast-most-entries
+cast-most-entries c = omega (arith, good (c .before .before .before .before .before .before) .tall)
+
+cast-most-entries-2 : tie.Need-cast-most-entries-2
+cast-most-entries-2 c = omega (arith, good (c .before .before .before .before .before .before) .wide)
+
+cast-most-entries-3 : tie.Need-cast-most-entries-3
+cast-most-entries-3 c = omega (arith, good (c .before .before .before .before .before .before) .few)
+
+most-entries-requires : tie.Need-most-entries-requires
+most-entries-requires c κs = let z = good (c .before .before .before .before .before .before) in (z .sided, z .deep)
 
 returns-5 : tie.Need-returns-5
 returns-5 c =
-    let a = c .before .before .before .before .before .before .before .before .before .before .before .before .args in
-    let z = good (c .before .before .before .before .before .before) in
-    rw (z .sided, z .deep, ← c .before .before .before .before .before .count-blocks .ensures .0, c .before .before .before .before .if1 .left, ← c .before .before .before .all-samples .ensures, c .before .before .if2 .left, le-ltb (quotaLimit (a .height) (a .width) (a .levels)) (a .quota) (omega (arith, c .before .most-entries .ensures .0, c .if3 .left)))
+    let a = c .before .before .before .before .before .before .before .before .before .before .before .before .before .before .args in
+    let z = good (c .before .before .before .before .before .before .before .before) in
+    rw (z .sided, z .deep, ← c .before .before .before .before .before .before .before .count-blocks .ensures .0, c .before .before .before .before .before .before .if1 .left, ← c .before .before .before .before .before .all-samples .ensures, c .before .before .before .before .if2 .left, le-ltb 4095 (a .tolerance) (omega (arith, c .before .before .before .largest-tolerance .ensures .0, c .before .before .if3 .left)), lt-ltb (quotaLimit (a .height) (a .width) (a .levels)) (a .quota) (omega (arith, c .before .most-entries .ensures .0, c .if4 .taken)))
+
+returns-6 : tie.Need-returns-6
+returns-6 c =
+    let a = c .before .before .before .before .before .before .before .before .before .before .before .before .before .before .args in
+    let z = good (c .before .before .before .before .before .before .before .before) in
+    rw (z .sided, z .deep, ← c .before .before .before .before .before .before .before .count-blocks .ensures .0, c .before .before .before .before .before .before .if1 .left, ← c .before .before .before .before .before .all-samples .ensures, c .before .before .before .before .if2 .left, le-ltb 4095 (a .tolerance) (omega (arith, c .before .before .before .largest-tolerance .ensures .0, c .before .before .if3 .left)), le-ltb (quotaLimit (a .height) (a .width) (a .levels)) (a .quota) (omega (arith, c .before .most-entries .ensures .0, c .if4 .left)))
 
 pub chain-checks-spec : {M : Type 1} → statement M
 chain-checks-spec =
@@ -75,9 +83,11 @@ chain-checks-spec =
     returns-2
     all-samples-requires
     returns-3
+    largest-tolerance-requires
+    returns-4
     cast-most-entries
     cast-most-entries-2
     cast-most-entries-3
     most-entries-requires
-    returns-4
-    returns-5)
+    returns-5
+    returns-6)

@@ -1,0 +1,107 @@
+-- The costs of the 89 placements, and of the coverings from them. Assumes nothing.
+use mathlib.Core.Path.{_≡_, refl, ap, _∙_}
+use mathlib.Core.Bool.{Bool, true, false, _&&_}
+use mathlib.Core.List.{List, [], map}
+use Prim.Native.Nat.{ℕ, zero, suc, _+_, _*_, _-_, _^_, _≤_, _<_}
+use native.Mathlib.Omega.{arith}
+use borrow.Author.Tests.{lt-ltb, le-ltb, eq-eqb, ne-eqb}
+use lib.Dec.{T, eqb, eqb→eq, ltb, ltb→lt}
+use lib.IntN.{ℤ, natAbs}
+use lib.ListN.{length, getD}
+use Rattle.integers.proofs.Sums.{Σℕ-cong}
+use Rattle.integers.specs.Lists.{every}
+use Rattle.integers.proofs.Tests.{both-left, both-right, upTo, upTo-at, every-at}
+use Rattle.integers.proofs.Tabulate.{length-tabulate, getD-tabulate}
+use Rattle.coverings.specs.Words.{words, wordOf}
+use Rattle.coverings.specs.Rule.{Number}
+use Rattle.coverings.proofs.Table.{count}
+use Rattle.block.specs.Block.{signRow, valuesOf, costOf, shapesOf}
+use Rattle.tables.specs.Tables.{pieceOf, piecesOf, placeAmong, placementList, placementTable, fourTable}
+use Rattle.kernel.specs.Kernel.{at, Within}
+use Rattle.choosing.specs.Choice.{spread, placed, spreads, placementOf, costFrom, Low, precedes}
+use Rattle.block.proofs.Rows.{rows-cong}
+use Rattle.kernel.proofs.Kernel.{row-bound}
+use Rattle.tables.proofs.Entries.{joined-map}
+
+-- each entry of the table of placements is a cell
+all-cells : T (every (λ x. ltb x 16) placementTable)
+unfolding words placementList placementTable
+all-cells = tt
+
+placements-length : length placementTable ≡ 356
+unfolding words placementList placementTable
+placements-length = refl
+
+pub placed-below : (k : ℕ) → k < 356 → getD placementTable k 0 < 16
+placed-below k h = ltb→lt _ _ (every-at (λ x. ltb x 16) placementTable 0 all-cells k (omega (arith, placements-length)))
+
+-- each piece of each covering has its cells at its placement
+abbrev found : List ℕ → ℕ → Bool
+found w p = let l = pieceOf w p in let k = placeAmong l placementList in ltb k 89 && upTo 4 (λ i. eqb (getD placementTable (k * 4 + i) 0) (getD l i 0))
+
+all-found : T (every (λ w. upTo 4 (found w)) words)
+unfolding words placementList placementTable
+all-found = tt
+
+found-at : (n p : ℕ) → Number n → p < 4 → T (found (wordOf n) p)
+unfolding wordOf
+found-at n p h l = upTo-at 4 (found (wordOf n)) (every-at (λ w. upTo 4 (found w)) words [] all-found (n - 1) (omega (arith, count))) p l
+
+fours-at : (w : List ℕ) (p : ℕ) → p < 4 → getD (map (λ l. placeAmong l placementList) (piecesOf w)) p 0 ≡ placeAmong (pieceOf w p) placementList
+fours-at w zero h = refl
+fours-at w (suc zero) h = refl
+fours-at w (suc (suc zero)) h = refl
+fours-at w (suc (suc (suc zero))) h = refl
+fours-at w (suc (suc (suc (suc p)))) h = absurd (omega arith)
+
+placement-is : (n p : ℕ) → Number n → p < 4 → placementOf n p ≡ placeAmong (pieceOf (wordOf n) p) placementList
+unfolding wordOf fourTable placementOf
+placement-is n p h l = joined-map 4 (λ w. map (λ l. placeAmong l placementList) (piecesOf w)) (λ w. refl) words (n - 1) p (omega (arith, count)) l ∙ fours-at (wordOf n) p l
+
+pub placement-below : (n p : ℕ) → Number n → p < 4 → placementOf n p < 89
+placement-below n p h l = rw (placement-is n p h l) (ltb→lt _ _ (both-left (ltb (placeAmong (pieceOf (wordOf n) p) placementList) 89) _ (found-at n p h l)))
+
+pub placement-cells : (n p i : ℕ) → Number n → p < 4 → i < 4 → getD placementTable (placementOf n p * 4 + i) 0 ≡ getD (pieceOf (wordOf n) p) i 0
+placement-cells n p i h l g =
+    rw (placement-is n p h l)
+    (eqb→eq _ _ (upTo-at 4 (λ i. eqb (getD placementTable (placeAmong (pieceOf (wordOf n) p) placementList * 4 + i) 0) (getD (pieceOf (wordOf n) p) i 0))
+    (both-right (ltb (placeAmong (pieceOf (wordOf n) p) placementList) 89) _ (found-at n p h l)) i g))
+
+-- ---- the order of candidates
+module _ (cost count least often : ℕ) where
+  pub cheaper : cost < least → precedes cost count least often ≡ true
+  cheaper h = simp (lt-ltb cost least h)
+
+  pub dearer : least < cost → precedes cost count least often ≡ false
+  dearer h = simp (le-ltb cost least (omega arith), ne-eqb cost least (λ e. omega arith))
+
+  pub more-often : cost ≡ least → often < count → precedes cost count least often ≡ true
+  more-often e h = simp (le-ltb cost least (omega arith), eq-eqb cost least e, lt-ltb often count h)
+
+  pub less-often : cost ≡ least → count ≤ often → precedes cost count least often ≡ false
+  less-often e h = simp (le-ltb cost least (omega arith), eq-eqb cost least e, le-ltb often count h)
+
+-- ---- costs
+pub spread-cong : (x y : ℕ → ℤ) → ((i : ℕ) → i < 4 → x i ≡ y i) → spread x ≡ spread y
+spread-cong x y h = Σℕ-cong 3 (λ b. natAbs (signRow (suc b) x)) (λ b. natAbs (signRow (suc b) y)) (λ b l. ap natAbs (rows-cong (suc b) x y h))
+
+pub spreads-length : (v : List ℤ) → length (spreads v) ≡ 89
+unfolding spreads
+spreads-length v = length-tabulate 89 (λ k. spread (placed v k))
+
+pub spreads-at : (v : List ℤ) (k : ℕ) → k < 89 → getD (spreads v) k 0 ≡ spread (placed v k)
+unfolding spreads
+spreads-at v k h = getD-tabulate 89 (λ k. spread (placed v k)) 0 k h
+
+pub cost-from : (v : List ℤ) (n : ℕ) → Number n → costFrom (spreads v) n ≡ costOf (shapesOf (wordOf n)) (at v)
+unfolding costFrom costOf
+cost-from v n h =
+    Σℕ-cong 4 (λ p. getD (spreads v) (placementOf n p) 0) (λ p. spread (valuesOf (shapesOf (wordOf n) p) (at v)))
+    (λ p l. spreads-at v (placementOf n p) (placement-below n p h l)
+    ∙ spread-cong (placed v (placementOf n p)) (valuesOf (shapesOf (wordOf n) p) (at v)) (λ i g. ap (at v) (placement-cells n p i h l g)))
+
+pub spreads-low : (v : List ℤ) → Within (2 ^ 40) v → Low (spreads v)
+spreads-low v h k l =
+    let small : (i : ℕ) → i < 4 → natAbs (placed v k i) ≤ 2 ^ 40 = (λ i g. h _ (placed-below (k * 4 + i) (omega arith))) in
+    rw (spreads-at v k l)
+    (omega (arith, row-bound 1 (placed v k) (2 ^ 40) small, row-bound 2 (placed v k) (2 ^ 40) small, row-bound 3 (placed v k) (2 ^ 40) small))

@@ -1,0 +1,79 @@
+// What the coverings cost in one block. A covering's cost is the sum over its four pieces of the absolute tetrolet coefficients, and only 89 placements of a
+// piece occur: their costs are taken once, and each covering's is the sum of four of them.
+ghost use mathlib.Core.Path.{_≡_};
+ghost use mathlib.Core.List.{List};
+ghost use Prim.Native.Nat.{_+_, _*_, _<_, _≤_, _^_};
+ghost use lib.IntN.{ℤ, natAbs};
+ghost use lib.ListN.{getD};
+ghost use Rattle.coverings.specs.Rule.{Number};
+ghost use Rattle.terms.specs.Terms.{costAt};
+ghost use Rattle.tables.specs.Tables.{placementTable, fourTable};
+ghost use Rattle.kernel.specs.Kernel.{at, Within, four};
+ghost use Rattle.choosing.specs.Choice.{spread, placed, spreads, placementOf, costFrom, Low};
+
+// The sum of the three absolute tetrolet coefficients of four values.
+fn spread_of(a: i64, b: i64, c: i64, d: i64) -> u64
+    requires { ⌜ (natAbs a ≤ 2 ^ 40) × (natAbs b ≤ 2 ^ 40) × (natAbs c ≤ 2 ^ 40) × (natAbs d ≤ 2 ^ 40) ⌝ }
+    ensures { λ r. ⌜ r ≡ spread (four a b c d) ⌝ }
+{
+    let s = kernel::transform::signed_sums(a, b, c, d);
+    integers::magnitude(s.w1) + integers::magnitude(s.w2) + integers::magnitude(s.w3)
+}
+
+// The cell at a place of the table of placements.
+fn placed_cell(placements: &[u8; 356], k: usize) -> usize
+    requires { ⌜ (now placements ≡ placementTable) × (k < 356) ⌝ }
+    ensures { λ r. ⌜ (r ≡ getD placementTable k 0) × (r < 16) ⌝ }
+{
+    placements[k] as usize
+}
+
+// The sum of the three absolute tetrolet coefficients of a placement.
+fn placement_cost(placements: &[u8; 356], k: usize, v: &[i64; 16]) -> u64
+    requires { ⌜ (now placements ≡ placementTable) × (k < 89) × Within (2 ^ 40) (now v) ⌝ }
+    ensures { λ r. ⌜ r ≡ spread (placed (now (v .entry)) k) ⌝ }
+{
+    let a = placed_cell(placements, k * 4);
+    let b = placed_cell(placements, k * 4 + 1);
+    let c = placed_cell(placements, k * 4 + 2);
+    let d = placed_cell(placements, k * 4 + 3);
+    spread_of(v[a], v[b], v[c], v[d])
+}
+
+// The same for every placement.
+// Two wrong answers that the contract rules out: the cost of a placement left at 0; and the absolute values without their signed sums.
+pub fn placement_costs(placements: &[u8; 356], v: &[i64; 16]) -> [u64; 89]
+    requires { ⌜ (now placements ≡ placementTable) × Within (2 ^ 40) (now v) ⌝ }
+    ensures { λ r. ⌜ r ≡ spreads (now (v .entry)) ⌝ }
+{
+    let mut costs = [0u64; 89];
+    let mut k: usize = 0;
+    while k < 89 {
+        costs[k] = placement_cost(placements, k, v);
+        k += 1;
+    }
+    costs
+}
+
+// The cost of one piece of a covering.
+fn piece_cost(costs: &[u64; 89], fours: &[u8; 468], covering: u8, piece: usize) -> u64
+    requires { ⌜ (now fours ≡ fourTable) × Number covering × (piece < 4) ⌝ }
+    ensures { λ r. ⌜ r ≡ getD (now (costs .entry)) (placementOf covering piece) 0 ⌝ }
+{
+    let n = covering as usize;
+    let k = fours[(n - 1) * 4 + piece] as usize;
+    costs[k]
+}
+
+// The cost of a covering: the sum over its four pieces. Of a block's placements it is the covering's cost in that block.
+// Two wrong answers that the contract rules out: the cost of another covering; and that of three of its pieces.
+pub fn covering_cost(costs: &[u64; 89], fours: &[u8; 468], covering: u8) -> u64
+    requires { ⌜ (now fours ≡ fourTable) × Number covering × Low (now costs) ⌝ }
+    ensures { λ r. ⌜ (r ≡ costFrom (now (costs .entry)) covering) × ((v : List ℤ) → now (costs .entry) ≡ spreads v → r ≡ costAt (at v) covering) ⌝ }
+{
+    let a = piece_cost(costs, fours, covering, 0);
+    let b = piece_cost(costs, fours, covering, 1);
+    let c = piece_cost(costs, fours, covering, 2);
+    let d = piece_cost(costs, fours, covering, 3);
+    a + b + c + d
+}

@@ -1,0 +1,4 @@
+pub mod All
+pub mod Examples
+pub mod Most
+pub mod Numbers
