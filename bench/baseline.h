@@ -5,9 +5,9 @@
 #include <stddef.h>
 #include <stdint.h>
 
-/* How base_decompose and base_decompose_within find the cost of a covering. */
-enum { BASE_STRAIGHT, /* all twelve W of each of the 117 coverings */
-       BASE_SHARED }; /* the 89 placements once, four added for each covering */
+/* How the entries that decompose find the costs of the coverings: all 117, or those of a list. */
+enum { BASE_STRAIGHT, /* all twelve W of each covering */
+       BASE_SHARED }; /* the placements that occur in them once, 89 in all 117, and four added for each covering */
 
 /* How base_write writes numbers. */
 enum { BASE_DIGITS, BASE_PRINTF };
@@ -21,9 +21,15 @@ uint32_t base_decompose(int form, size_t height, size_t width, size_t levels, co
 uint32_t base_decompose_within(int form, size_t height, size_t width, size_t levels, uint64_t tolerance, const uint16_t *samples,
                                size_t samples_len, int64_t *plane, size_t plane_len, uint8_t *coverings, size_t coverings_len,
                                int64_t *scratch, size_t scratch_len);
+uint32_t base_decompose_listed(int form, size_t height, size_t width, size_t levels, uint64_t tolerance, const uint16_t *samples,
+                               size_t samples_len, const uint8_t *list, size_t list_len, int64_t *plane, size_t plane_len,
+                               uint8_t *coverings, size_t coverings_len, int64_t *scratch, size_t scratch_len);
 uint32_t base_restore(size_t height, size_t width, size_t levels, const int64_t *plane, size_t plane_len, const uint8_t *coverings,
                       size_t coverings_len, int64_t *numerators, size_t numerators_len, uint16_t *samples, size_t samples_len,
                       int64_t *scratch, size_t scratch_len);
+uint32_t base_restore_listed(size_t height, size_t width, size_t levels, const int64_t *plane, size_t plane_len, const uint8_t *coverings,
+                             size_t coverings_len, const uint8_t *list, size_t list_len, int64_t *numerators, size_t numerators_len,
+                             uint16_t *samples, size_t samples_len, int64_t *scratch, size_t scratch_len);
 uint32_t base_keep(size_t height, size_t width, size_t levels, int64_t *plane, size_t plane_len, uint64_t quota, size_t *left);
 uint32_t base_threshold(size_t height, size_t width, size_t levels, int64_t *plane, size_t plane_len, uint64_t threshold, size_t *left);
 uint32_t base_write(int form, size_t height, size_t width, size_t levels, const int64_t *plane, size_t plane_len, const uint8_t *coverings,

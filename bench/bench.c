@@ -2,6 +2,7 @@
    entry, the ratio, also for strips and for a day of tiny sheets, how cost grows with the size, and the peak resident size. */
 #define _GNU_SOURCE
 #include "baseline.h"
+#include "sixteen.h"
 #include "tetrolet.h"
 
 #include <stdio.h>
@@ -16,6 +17,14 @@
 /* The tolerances of the rows: none, a small one, and the largest, with which nearly all coverings compete. */
 #define TOLERANCES 3
 static const uint64_t tolerances[TOLERANCES] = { 0, 16, 4095 };
+
+/* The lists of the rows: all 117 coverings, which `main` writes down, and sixteen. */
+#define LISTS 2
+static uint8_t every[117];
+static const struct {
+    const uint8_t *numbers;
+    size_t count;
+} lists[LISTS] = { { every, sizeof every }, { sixteen, sizeof sixteen } };
 
 static uint64_t seed = 88172645463325252u;
 
@@ -80,6 +89,14 @@ static void agree(size_t height, size_t width, size_t levels, int kind)
         b = base_decompose_within(form, height, width, levels, tolerance, image, area, plane[1], area, coverings[1], blocks, scratch[1], area);
         check(a == 0 && b == 0 && !memcmp(plane[0], plane[1], bytes) && !memcmp(coverings[0], coverings[1], blocks)
                   && !memcmp(scratch[0], scratch[1], bytes), "decompositions with a tolerance", height, width, levels);
+        for (int k = 0; k < LISTS; k++) {
+            a = tetrolet_decompose_listed(height, width, levels, tolerance, image, area, lists[k].numbers, lists[k].count, plane[0], area,
+                                          coverings[0], blocks, scratch[0], area);
+            b = base_decompose_listed(form, height, width, levels, tolerance, image, area, lists[k].numbers, lists[k].count, plane[1], area,
+                                      coverings[1], blocks, scratch[1], area);
+            check(a == 0 && b == 0 && !memcmp(plane[0], plane[1], bytes) && !memcmp(coverings[0], coverings[1], blocks)
+                      && !memcmp(scratch[0], scratch[1], bytes), "decompositions by a list", height, width, levels);
+        }
         a = tetrolet_decompose(height, width, levels, image, area, plane[0], area, coverings[0], blocks, scratch[0], area);
         b = base_decompose(form, height, width, levels, image, area, plane[1], area, coverings[1], blocks, scratch[1], area);
         check(a == 0 && b == 0 && !memcmp(plane[0], plane[1], bytes) && !memcmp(coverings[0], coverings[1], blocks)
@@ -108,6 +125,12 @@ static void agree(size_t height, size_t width, size_t levels, int kind)
     b = base_restore(height, width, levels, plane[0], area, coverings[0], blocks, numerators[1], area, samples[1], area, scratch[1], area);
     check(a == 0 && b == 0 && !memcmp(numerators[0], numerators[1], bytes) && !memcmp(samples[0], samples[1], area * sizeof(uint16_t))
               && !memcmp(scratch[0], scratch[1], bytes), "restorations", height, width, levels);
+    a = tetrolet_restore_listed(height, width, levels, plane[0], area, coverings[0], blocks, sixteen, sizeof sixteen, numerators[0], area, samples[0],
+                                area, scratch[0], area);
+    b = base_restore_listed(height, width, levels, plane[0], area, coverings[0], blocks, sixteen, sizeof sixteen, numerators[1], area, samples[1],
+                            area, scratch[1], area);
+    check(a == 0 && b == 0 && !memcmp(numerators[0], numerators[1], bytes) && !memcmp(samples[0], samples[1], area * sizeof(uint16_t))
+              && !memcmp(scratch[0], scratch[1], bytes), "restorations with a list", height, width, levels);
     uint32_t start = (uint32_t)next();
     a = tetrolet_test_image(height, width, start, samples[0], area);
     b = base_test_image(height, width, start, samples[1], area);
@@ -127,6 +150,7 @@ static void agree(size_t height, size_t width, size_t levels, int kind)
 
 struct times {
     double decompose, straight, shared, within[TOLERANCES], within_straight[TOLERANCES], within_shared[TOLERANCES];
+    double listed[LISTS], listed_straight[LISTS], listed_shared[LISTS], restore_listed, base_restore_listed; /* restored by sixteen */
     double restore, base_restore, keep, base_keep, write, digits, printed, read, base_read, usage, base_usage, test, base_test;
     double kept_write, kept_digits, kept_read, kept_base_read; /* of the plane that keep leaves */
 };
@@ -146,6 +170,15 @@ static struct times measure(size_t height, size_t width, size_t levels)
             TIME(t.within_shared[k], base_decompose_within(BASE_SHARED, height, width, levels, near, image, area, p, area, c, blocks, w, area));
             TIME(t.within[k], tetrolet_decompose_within(height, width, levels, near, image, area, p, area, c, blocks, w, area));
         }
+        for (int k = 0; k < LISTS; k++) {
+            const uint8_t *list = lists[k].numbers;
+            size_t count = lists[k].count;
+            TIME(t.listed_straight[k], base_decompose_listed(BASE_STRAIGHT, height, width, levels, 0, image, area, list, count, p, area, c, blocks, w, area));
+            TIME(t.listed_shared[k], base_decompose_listed(BASE_SHARED, height, width, levels, 0, image, area, list, count, p, area, c, blocks, w, area));
+            TIME(t.listed[k], tetrolet_decompose_listed(height, width, levels, 0, image, area, list, count, p, area, c, blocks, w, area));
+        }
+        TIME(t.base_restore_listed, base_restore_listed(height, width, levels, p, area, c, blocks, sixteen, 16, n, area, samples[0], area, w, area));
+        TIME(t.restore_listed, tetrolet_restore_listed(height, width, levels, p, area, c, blocks, sixteen, 16, n, area, samples[0], area, w, area));
         TIME(t.straight, base_decompose(BASE_STRAIGHT, height, width, levels, image, area, p, area, c, blocks, w, area));
         TIME(t.shared, base_decompose(BASE_SHARED, height, width, levels, image, area, p, area, c, blocks, w, area));
         TIME(t.decompose, tetrolet_decompose(height, width, levels, image, area, p, area, c, blocks, w, area));
@@ -325,6 +358,8 @@ static int peak_run(int library)
 int main(int argc, char **argv)
 {
     base_init();
+    for (size_t k = 0; k < sizeof every; k++)
+        every[k] = (uint8_t)(k + 1);
     if (argc == 2 && !strcmp(argv[1], "peak-library"))
         return peak_run(1);
     if (argc == 2 && !strcmp(argv[1], "peak-baseline"))
@@ -349,6 +384,13 @@ int main(int argc, char **argv)
         snprintf(name, sizeof name, "within %u", (unsigned)tolerances[k]);
         line(name, t.within[k], "faster", faster(t.within_straight[k], t.within_shared[k]), 0);
     }
+    for (int k = 0; k < LISTS; k++) {
+        char name[32];
+        snprintf(name, sizeof name, "listed %u", (unsigned)lists[k].count);
+        line(name, t.listed[k], "straight", t.listed_straight[k], 0);
+        line(name, t.listed[k], "shared", t.listed_shared[k], 0);
+    }
+    line("restore 16", t.restore_listed, "plain", t.base_restore_listed, 0);
     line("restore", t.restore, "plain", t.base_restore, 1.3);
     line("keep", t.keep, "buckets", t.base_keep, 1.5);
     line("write", t.write, "digits", t.digits, 1.5);

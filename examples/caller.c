@@ -1,5 +1,7 @@
 /* A caller in C: decomposes a small strip, first with a tolerance and then without, to show how many different coverings a mill needs; keeps the best
-   coefficients, writes the sheet, reads it back and restores it. Then what an installer runs: a test image, made from a number, goes there and back. */
+   coefficients, writes the sheet, reads it back and restores it; does the same with a list of sixteen coverings, to show how much farther the picture
+   is then. Then what an installer runs: a test image, made from a number, goes there and back. */
+#include "sixteen.h"
 #include "tetrolet.h"
 
 #include <inttypes.h>
@@ -22,6 +24,14 @@ static int different(const uint8_t *coverings)
     for (int k = 0; k < BLOCKS; k++)
         kinds += used[coverings[k]]++ == 0;
     return kinds;
+}
+
+static long squared_distance(const uint16_t *a, const uint16_t *b)
+{
+    long distance = 0;
+    for (int k = 0; k < AREA; k++)
+        distance += ((long)a[k] - b[k]) * ((long)a[k] - b[k]);
+    return distance;
 }
 
 int main(void)
@@ -61,10 +71,16 @@ int main(void)
     accepted("restore", tetrolet_restore(height, width, levels, plane_read, AREA, coverings_read, BLOCKS, numerators, AREA, samples, AREA, scratch,
                                          AREA));
 
-    long distance = 0;
-    for (int k = 0; k < AREA; k++)
-        distance += ((long)samples[k] - image[k]) * ((long)samples[k] - image[k]);
+    long distance = squared_distance(samples, image);
     printf("restored: squared distance %ld over %d samples\n", distance, AREA);
+
+    accepted("decompose listed", tetrolet_decompose_listed(HEIGHT, WIDTH, LEVELS, 0, image, AREA, sixteen, sizeof sixteen, plane, AREA, coverings,
+                                                           BLOCKS, scratch, AREA));
+    accepted("keep", tetrolet_keep(HEIGHT, WIDTH, LEVELS, plane, AREA, QUOTA, &left));
+    accepted("restore listed", tetrolet_restore_listed(HEIGHT, WIDTH, LEVELS, plane, AREA, coverings, BLOCKS, sixteen, sizeof sixteen, numerators,
+                                                       AREA, samples, AREA, scratch, AREA));
+    printf("with a list of %zu coverings: %d different ones, squared distance %ld; with all 117: %d, %ld\n", sizeof sixteen, different(coverings),
+           squared_distance(samples, image), kinds, distance);
 
     accepted("test image", tetrolet_test_image(HEIGHT, WIDTH, 0, image, AREA));
     accepted("decompose", tetrolet_decompose(HEIGHT, WIDTH, LEVELS, image, AREA, plane, AREA, coverings, BLOCKS, scratch, AREA));

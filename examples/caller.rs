@@ -1,5 +1,6 @@
 // A caller in Rust: decomposes a small strip, first with a tolerance and then without, to show how many different coverings a mill needs; keeps the best
-// coefficients, writes the sheet, reads it back and restores it. Then what an installer runs: a test image, made from a number, goes there and back.
+// coefficients, writes the sheet, reads it back and restores it; does the same with a list of sixteen coverings, to show how much farther the picture
+// is then. Then what an installer runs: a test image, made from a number, goes there and back.
 // The functions below wrap the C entries in slices, so that lengths and pointers cannot be mistaken.
 
 use std::collections::BTreeSet;
@@ -33,6 +34,22 @@ mod ffi {
             scratch: *mut i64,
             scratch_len: usize,
         ) -> u32;
+        pub fn tetrolet_decompose_listed(
+            height: usize,
+            width: usize,
+            levels: usize,
+            tolerance: u64,
+            samples: *const u16,
+            samples_len: usize,
+            list: *const u8,
+            list_len: usize,
+            plane: *mut i64,
+            plane_len: usize,
+            coverings: *mut u8,
+            coverings_len: usize,
+            scratch: *mut i64,
+            scratch_len: usize,
+        ) -> u32;
         pub fn tetrolet_restore(
             height: usize,
             width: usize,
@@ -41,6 +58,23 @@ mod ffi {
             plane_len: usize,
             coverings: *const u8,
             coverings_len: usize,
+            numerators: *mut i64,
+            numerators_len: usize,
+            samples: *mut u16,
+            samples_len: usize,
+            scratch: *mut i64,
+            scratch_len: usize,
+        ) -> u32;
+        pub fn tetrolet_restore_listed(
+            height: usize,
+            width: usize,
+            levels: usize,
+            plane: *const i64,
+            plane_len: usize,
+            coverings: *const u8,
+            coverings_len: usize,
+            list: *const u8,
+            list_len: usize,
             numerators: *mut i64,
             numerators_len: usize,
             samples: *mut u16,
@@ -156,6 +190,38 @@ fn decompose_within(
     answer(n, ())
 }
 
+fn decompose_listed(
+    height: usize,
+    width: usize,
+    levels: usize,
+    tolerance: u64,
+    samples: &[u16],
+    list: &[u8],
+    plane: &mut [i64],
+    coverings: &mut [u8],
+    scratch: &mut [i64],
+) -> Answer<()> {
+    let n = unsafe {
+        ffi::tetrolet_decompose_listed(
+            height,
+            width,
+            levels,
+            tolerance,
+            samples.as_ptr(),
+            samples.len(),
+            list.as_ptr(),
+            list.len(),
+            plane.as_mut_ptr(),
+            plane.len(),
+            coverings.as_mut_ptr(),
+            coverings.len(),
+            scratch.as_mut_ptr(),
+            scratch.len(),
+        )
+    };
+    answer(n, ())
+}
+
 fn restore(
     height: usize,
     width: usize,
@@ -175,6 +241,39 @@ fn restore(
             plane.len(),
             coverings.as_ptr(),
             coverings.len(),
+            numerators.as_mut_ptr(),
+            numerators.len(),
+            samples.as_mut_ptr(),
+            samples.len(),
+            scratch.as_mut_ptr(),
+            scratch.len(),
+        )
+    };
+    answer(n, ())
+}
+
+fn restore_listed(
+    height: usize,
+    width: usize,
+    levels: usize,
+    plane: &[i64],
+    coverings: &[u8],
+    list: &[u8],
+    numerators: &mut [i64],
+    samples: &mut [u16],
+    scratch: &mut [i64],
+) -> Answer<()> {
+    let n = unsafe {
+        ffi::tetrolet_restore_listed(
+            height,
+            width,
+            levels,
+            plane.as_ptr(),
+            plane.len(),
+            coverings.as_ptr(),
+            coverings.len(),
+            list.as_ptr(),
+            list.len(),
             numerators.as_mut_ptr(),
             numerators.len(),
             samples.as_mut_ptr(),
@@ -264,7 +363,13 @@ const WIDTH: usize = 32;
 const LEVELS: usize = 2;
 const AREA: usize = HEIGHT * WIDTH;
 const BLOCKS: usize = 2 * 8 + 4;
+const QUOTA: u64 = 60;
 const TOLERANCE: u64 = 16;
+
+// Sixteen coverings with different directions; sixteen.h says where they are from.
+const SIXTEEN: [u8; 16] = [
+    1, 5, 10, 17, 25, 28, 57, 60, 65, 68, 79, 86, 105, 108, 109, 117,
+];
 
 // The plane and the coverings of an image.
 fn planed(image: &[u16]) -> Answer<(Vec<i64>, Vec<u8>)> {
@@ -297,6 +402,23 @@ fn covered(image: &[u16], tolerance: u64) -> Answer<Vec<u8>> {
     Ok(coverings)
 }
 
+// The plane and the coverings of an image, by a list.
+fn listed(image: &[u16], list: &[u8]) -> Answer<(Vec<i64>, Vec<u8>)> {
+    let (mut plane, mut coverings, mut scratch) = (vec![0; AREA], vec![0; BLOCKS], vec![0; AREA]);
+    decompose_listed(
+        HEIGHT,
+        WIDTH,
+        LEVELS,
+        0,
+        image,
+        list,
+        &mut plane,
+        &mut coverings,
+        &mut scratch,
+    )?;
+    Ok((plane, coverings))
+}
+
 fn different(coverings: &[u8]) -> usize {
     coverings.iter().collect::<BTreeSet<_>>().len()
 }
@@ -323,6 +445,30 @@ fn restored(
     Ok(samples)
 }
 
+// The same by a list.
+fn restored_by(plane: &[i64], coverings: &[u8], list: &[u8]) -> Answer<Vec<u16>> {
+    let (mut numerators, mut samples, mut scratch) = (vec![0; AREA], vec![0; AREA], vec![0; AREA]);
+    restore_listed(
+        HEIGHT,
+        WIDTH,
+        LEVELS,
+        plane,
+        coverings,
+        list,
+        &mut numerators,
+        &mut samples,
+        &mut scratch,
+    )?;
+    Ok(samples)
+}
+
+fn squared_distance(a: &[u16], b: &[u16]) -> i64 {
+    a.iter()
+        .zip(b)
+        .map(|(a, b)| (*a as i64 - *b as i64).pow(2))
+        .sum()
+}
+
 fn run() -> Answer<()> {
     // A soft slope with a fine grain and a bright diagonal bar, stored down columns.
     let mut image = vec![0u16; AREA];
@@ -340,7 +486,7 @@ fn run() -> Answer<()> {
     println!("decomposed height {HEIGHT}, width {WIDTH} with {LEVELS} levels: {BLOCKS} blocks, {kinds} different coverings, {entries} plane entries not zero");
     println!("different coverings used: {kinds} with tolerance 0, {near_kinds} with tolerance {TOLERANCE}");
 
-    let left = keep(HEIGHT, WIDTH, LEVELS, &mut plane, 60)?;
+    let left = keep(HEIGHT, WIDTH, LEVELS, &mut plane, QUOTA)?;
     println!("kept {left} tetrolet coefficients");
     let mut sheet = vec![0; 32 * AREA];
     let length = write(HEIGHT, WIDTH, LEVELS, &plane, &coverings, &mut sheet)?;
@@ -350,12 +496,18 @@ fn run() -> Answer<()> {
     println!("read it back: height {height}, width {width}, levels {levels}");
 
     let samples = restored(height, width, levels, &plane, &coverings)?;
-    let distance: i64 = image
-        .iter()
-        .zip(&samples)
-        .map(|(a, b)| (*a as i64 - *b as i64).pow(2))
-        .sum();
+    let distance = squared_distance(&image, &samples);
     println!("restored: squared distance {distance} over {AREA} samples");
+
+    let (mut plane, coverings) = listed(&image, &SIXTEEN)?;
+    keep(HEIGHT, WIDTH, LEVELS, &mut plane, QUOTA)?;
+    let samples = restored_by(&plane, &coverings, &SIXTEEN)?;
+    println!(
+        "with a list of {} coverings: {} different ones, squared distance {}; with all 117: {kinds}, {distance}",
+        SIXTEEN.len(),
+        different(&coverings),
+        squared_distance(&image, &samples)
+    );
 
     test_image(HEIGHT, WIDTH, 0, &mut image)?;
     let (plane, coverings) = planed(&image)?;

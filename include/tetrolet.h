@@ -42,7 +42,8 @@ enum {
     TETROLET_BUFFER = 10,     /* the text is longer than the buffer */
     TETROLET_SEQUENCE = 11,   /* block lines or plane lines that are not at their places */
     TETROLET_BENCH = 12,      /* cutter: the height or the width is over 32 */
-    TETROLET_TOLERANCE = 13   /* the tolerance is over 4,095 */
+    TETROLET_TOLERANCE = 13,  /* the tolerance is over 4,095 */
+    TETROLET_LIST = 14        /* the list is empty, does not strictly rise, or holds 0 or a number over 117 */
 };
 
 /* The largest counts: samples of an image, coverings of an image, bytes of a sheet, bytes of a usage list. */
@@ -92,6 +93,20 @@ uint32_t tetrolet_decompose_within(size_t height, size_t width, size_t levels, u
                                    size_t scratch_len);
 
 /*
+ * Decomposes an image by the coverings of a list. Only those in the list compete: at level r the ones whose cost is at most the least in the list
+ * plus tolerance * 2^r. The block takes the one of them that was chosen most often in all earlier blocks of the image, those of the finer levels
+ * too; then the lowest number. With all 117 listed it gives what tetrolet_decompose_within gives.
+ *   tolerance  0 to 4,095
+ *   list       a list of 1 to 117 covering numbers, strictly rising, read; a wrong length of it is 14, not 3
+ *   coverings  B numbers of the list, written
+ *   samples, plane, scratch    as for tetrolet_decompose
+ * Refusals: 1, 2, 3, 4, 13, 14.
+ */
+uint32_t tetrolet_decompose_listed(size_t height, size_t width, size_t levels, uint64_t tolerance, const uint16_t *samples, size_t samples_len,
+                                   const uint8_t *list, size_t list_len, int64_t *plane, size_t plane_len, uint8_t *coverings,
+                                   size_t coverings_len, int64_t *scratch, size_t scratch_len);
+
+/*
  * Restores an image from a plane and its coverings.
  *   plane      height * width entries, read: low-pass 0 to 4,095 * 4^R; W of level r within 2 * 4^(r-1) * 4,095 either side of zero
  *   coverings  B numbers, 1 to 117, read
@@ -103,6 +118,17 @@ uint32_t tetrolet_decompose_within(size_t height, size_t width, size_t levels, u
 uint32_t tetrolet_restore(size_t height, size_t width, size_t levels, const int64_t *plane, size_t plane_len, const uint8_t *coverings,
                           size_t coverings_len, int64_t *numerators, size_t numerators_len, uint16_t *samples, size_t samples_len,
                           int64_t *scratch, size_t scratch_len);
+
+/*
+ * Restores an image from a plane and the coverings of a list; it gives what tetrolet_restore gives. The call looks at the list itself only (14):
+ * that it is the list which was used is the caller's word.
+ *   list       a list of 1 to 117 covering numbers, strictly rising, read; a wrong length of it is 14, not 3
+ *   plane, coverings, numerators, samples, scratch    as for tetrolet_restore
+ * Refusals: 1, 2, 3, 14, 5, 6.
+ */
+uint32_t tetrolet_restore_listed(size_t height, size_t width, size_t levels, const int64_t *plane, size_t plane_len, const uint8_t *coverings,
+                                 size_t coverings_len, const uint8_t *list, size_t list_len, int64_t *numerators, size_t numerators_len,
+                                 uint16_t *samples, size_t samples_len, int64_t *scratch, size_t scratch_len);
 
 /*
  * Keeps the first `quota` tetrolet coefficients by falling rank |W| * 2^(R-r), then in plane order; the others become 0.

@@ -1,7 +1,7 @@
 #!/usr/bin/env bash
 # Builds the picture programs; makes the synthetic veneer and the picture of what a quota leaves of it, and compares both with those
 # kept here; turns the veneer, and two strips of it, into a sheet and back; makes a test image from a number, the one that every site has;
-# prints what a tolerance does to the veneer and to the test image.
+# prints what a tolerance and a list of coverings do to the veneer and to the test image.
 # Needs a C compiler. With --built the library is taken as it stands.
 set -eu
 cd "$(dirname "$0")/.."
@@ -10,7 +10,7 @@ if [ "${1:-}" != --built ]; then
     rt staticlib c_api >target/pictures/staticlib.log 2>&1 || { cat target/pictures/staticlib.log; exit 1; }
 fi
 archive=target/staticlib/libc_api.a
-flags='-O2 -std=c11 -Wall -Wextra -Iinclude -Ibench -Ipictures'
+flags='-O2 -std=c11 -Wall -Wextra -Iinclude -Ibench -Iexamples -Ipictures'
 height=256 width=256 levels=7 quota=1966
 whole=$((height * width - height * width / 4 ** levels))
 
@@ -43,8 +43,8 @@ target/pictures/pgm test-image 512 512 0 >target/pictures/test.pgm
 target/pictures/pgm to-sheet 8 $((512 * 512 - 4)) <target/pictures/test.pgm | target/pictures/pgm to-pgm | cmp - target/pictures/test.pgm
 echo "target/pictures/test.pgm: the test image of 512 by 512 from 0, with the checksum that every site has; the whole quota gives it back"
 
-cc $flags pictures/tolerance.c pictures/image.c "$archive" -lm -o target/pictures/tolerance
-echo "a tolerance: the veneer with 7 levels, quota 1966"
-target/pictures/tolerance 7 1966 <pictures/veneer.pgm
-echo "a tolerance: the test image with 8 levels, quota 7864"
-target/pictures/tolerance 8 7864 <target/pictures/test.pgm
+cc $flags pictures/choice.c pictures/image.c "$archive" -lm -o target/pictures/choice
+echo "a tolerance, and a list of coverings: the veneer with 7 levels, quota 1966"
+target/pictures/choice 7 1966 <pictures/veneer.pgm
+echo "a tolerance, and a list of coverings: the test image with 8 levels, quota 7864"
+target/pictures/choice 8 7864 <target/pictures/test.pgm

@@ -3,7 +3,8 @@
 
 FILE is a list of calls {entry, note, args, result | refusal}, as the vectors have them. Run tests/library.sh first.
 A refused call must leave each lent slice, and each number that is given through a pointer, as it was; both are lent with rubbish in them so that
-this shows. ENTRIES below is the table of the entries: a new one is a row. A call of decompose that names a tolerance is one of decompose_within.
+this shows. ENTRIES below is the table of the entries: a new one is a row. A call of decompose that names a tolerance is one of decompose_within;
+a call of decompose or of restore that names a list (`mill`) is one of decompose_listed or of restore_listed.
 """
 import ctypes, json, os, re, sys
 
@@ -61,13 +62,14 @@ def of_text(e):
 
 
 class Number:
-    """A number that is passed as it is."""
+    """A number that is passed as it is. With a default, that one where the call does not give it."""
 
-    def __init__(self, name, kind="size"):
-        self.name, self.kind = name, kind
+    def __init__(self, name, kind="size", default=None):
+        self.name, self.kind, self.default = name, kind, default
 
     def lend(self, e):
-        self.flat = (TYPES[self.kind](e["args"][self.name]),)
+        v = e["args"].get(self.name, self.default)
+        self.flat = (TYPES[self.kind](v),)
 
     def value(self):
         return None
@@ -118,13 +120,17 @@ class Given:
 FRAME = [Number("height"), Number("width"), Number("levels")]
 PLANE, COVERS = Slice("plane", "i64"), Slice("covers", "u8")
 SCRATCH = Slice("scratch", "i64", of_area)
-IMAGE = [Slice("samples", "u16"), Slice("plane", "i64", of_area), Slice("covers", "u8", of_blocks), SCRATCH]
+SAMPLES, LIST = Slice("samples", "u16"), Slice("mill", "u8")
+DECOMPOSED = [Slice("plane", "i64", of_area), Slice("covers", "u8", of_blocks), SCRATCH]
+RESTORED = [Slice("numerators", "i64", of_area), Slice("samples", "u16", of_area), SCRATCH]
 
 ENTRIES = {
     "pieces": ("tetrolet_word", [Number("cover", "u8"), Slice("word", "u8", lambda e: 16)]),
-    "decompose": ("tetrolet_decompose", FRAME + IMAGE),
-    "decompose_within": ("tetrolet_decompose_within", FRAME + [Number("tolerance", "u64")] + IMAGE),
-    "restore": ("tetrolet_restore", FRAME + [PLANE, COVERS, Slice("numerators", "i64", of_area), Slice("samples", "u16", of_area), SCRATCH]),
+    "decompose": ("tetrolet_decompose", FRAME + [SAMPLES] + DECOMPOSED),
+    "decompose_within": ("tetrolet_decompose_within", FRAME + [Number("tolerance", "u64"), SAMPLES] + DECOMPOSED),
+    "decompose_listed": ("tetrolet_decompose_listed", FRAME + [Number("tolerance", "u64", 0), SAMPLES, LIST] + DECOMPOSED),
+    "restore": ("tetrolet_restore", FRAME + [PLANE, COVERS] + RESTORED),
+    "restore_listed": ("tetrolet_restore_listed", FRAME + [PLANE, COVERS, LIST] + RESTORED),
     "keep": ("tetrolet_keep", FRAME + [Slice("plane", "i64", of_area), Number("quota", "u64"), Given("left")]),
     "cut": ("tetrolet_threshold", FRAME + [Slice("plane", "i64", of_area), Number("threshold", "u64"), Given("left")]),
     "write": ("tetrolet_write", FRAME + [PLANE, COVERS, Text("tray", "u8", of_text), Given("length")]),
@@ -135,7 +141,10 @@ ENTRIES = {
 
 
 def entry_of(e):
-    return "decompose_within" if e["entry"] == "decompose" and "tolerance" in e["args"] else e["entry"]
+    entry, args = e["entry"], e["args"]
+    if entry in ("decompose", "restore") and "mill" in args:
+        return entry + "_listed"
+    return "decompose_within" if entry == "decompose" and "tolerance" in args else entry
 
 
 def run(e):

@@ -172,6 +172,13 @@ static void compare_entries(uint32_t a, uint32_t b)
     }
 }
 
+/* The library may only read this slice. */
+static void unchanged(const struct slice *s)
+{
+    if (memcmp(s->lib, s->old, s->bytes) != 0)
+        differ("a slice that is only read has changed");
+}
+
 static void drop(void)
 {
     for (int k = 0; k < lent_count; k++) {
@@ -297,6 +304,83 @@ static void fill_coverings(uint8_t *p, size_t n)
         p[i] = (uint8_t)(1 + below(range));
     if (n > 0 && once_in(30))
         p[below(n)] = (uint8_t)(once_in(3) ? 0 : 118 + below(138));
+}
+
+/* The length of a good list: 1, about 16, nearly all, all 117, or any. */
+static size_t list_length(void)
+{
+    switch (below(8)) {
+    case 0: return 1;
+    case 1: return 2 + below(4);
+    case 2:
+    case 3: return 14 + below(5);
+    case 4: return 116;
+    case 5:
+    case 6: return 117;
+    default: return 1 + below(117);
+    }
+}
+
+/* A good list of n numbers: each number in turn is taken with the chance that as many are still wanted among those left. */
+static void fill_list(uint8_t *p, size_t n)
+{
+    for (size_t k = 0, number = 1; k < n; number++)
+        if (below(118 - number) < n - k)
+            p[k++] = (uint8_t)number;
+}
+
+/* A list that is too long: numbers that rise from 0 or 1, and over 117 or not. */
+static void fill_long_list(uint8_t *p, size_t n)
+{
+    size_t first = below(2), last = once_in(2) ? 117 : 255;
+    for (size_t k = 0; k < n; k++)
+        p[k] = (uint8_t)(first + k < last ? first + k : last);
+}
+
+/* One number of a good list changed: 0, one too large, the one before it again, a smaller one, two that have changed places, or anything. Many of
+   these lists rise all the same. */
+static void spoil_list(uint8_t *p, size_t n)
+{
+    size_t at = below(n), other = below(n);
+    uint8_t kept = p[at];
+    switch (below(8)) {
+    case 0: p[0] = 0; break;
+    case 1: p[n - 1] = 118; break;
+    case 2: p[n - 1] = 255; break;
+    case 3: p[n - 1] = (uint8_t)(118 + below(138)); break;
+    case 4: p[at] = p[at > 0 ? at - 1 : n - 1]; break;
+    case 5: p[at] = (uint8_t)below((uint64_t)kept + 1); break;
+    case 6:
+        p[at] = p[other];
+        p[other] = kept;
+        break;
+    default: p[at] = (uint8_t)below(256);
+    }
+}
+
+/* A list of covering numbers: most often a good one; empty, too long, or with one number changed. */
+static struct slice *lend_list(void)
+{
+    uint64_t kind = below(16);
+    size_t n = kind == 0 ? 0 : kind == 1 ? (once_in(2) ? 118 : once_in(2) ? 300 : 118 + below(200)) : list_length();
+    struct slice *list = lend(n, 1);
+    if (kind == 1)
+        fill_long_list(list->base, n);
+    if (kind > 1)
+        fill_list(list->base, n);
+    if (kind > 1 && kind < 6)
+        spoil_list(list->base, n);
+    return list;
+}
+
+/* Whether a list is that of all 117. */
+static int lists_all(const struct slice *list)
+{
+    const uint8_t *p = list->old;
+    for (size_t k = 0; k < list->len; k++)
+        if (p[k] != k + 1)
+            return 0;
+    return list->len == 117;
 }
 
 /* A plane: of a real image, or random entries up to their ranges; now and then an entry out of range. */
@@ -540,6 +624,29 @@ static void call_within(struct tally *t)
                                         plane->len, coverings->base, coverings->len, scratch->base, scratch->len));
 }
 
+static void call_listed(struct tally *t)
+{
+    struct frame f = make_frame();
+    count_strip(t, f);
+    struct slice *samples = lend(length_near(f.area), 2), *list = lend_list(), *plane = lend(length_near(f.area), 8),
+                 *coverings = lend(length_near(f.blocks), 1), *scratch = lend(length_near(f.area), 8);
+    uint64_t tolerance = make_tolerance();
+    fill_samples(samples->base, samples->len);
+    settle();
+    uint32_t a = tetrolet_decompose_listed(f.height, f.width, f.levels, tolerance, samples->lib, samples->len, list->lib, list->len, plane->lib,
+                                           plane->len, coverings->lib, coverings->len, scratch->lib, scratch->len);
+    unchanged(list);
+    if (lists_all(list))
+        compare_entries(a, tetrolet_decompose_within(f.height, f.width, f.levels, tolerance, samples->base, samples->len, plane->base, plane->len,
+                                                     coverings->base, coverings->len, scratch->base, scratch->len));
+    if (asks_plain(f.area))
+        compare_plain(t, a, plain_decompose_listed(words, WORDS, f.height, f.width, f.levels, tolerance, samples->plain, samples->len, list->plain,
+                                                   list->len, plane->plain, plane->len, coverings->plain, coverings->len, scratch->plain,
+                                                   scratch->len));
+    compare(t, a, base_decompose_listed((int)below(2), f.height, f.width, f.levels, tolerance, samples->base, samples->len, list->base, list->len,
+                                        plane->base, plane->len, coverings->base, coverings->len, scratch->base, scratch->len));
+}
+
 static void call_restore(struct tally *t)
 {
     struct frame f = make_frame();
@@ -556,6 +663,30 @@ static void call_restore(struct tally *t)
                                           numerators->plain, numerators->len, samples->plain, samples->len, scratch->plain, scratch->len));
     compare(t, a, base_restore(f.height, f.width, f.levels, plane->base, plane->len, coverings->base, coverings->len, numerators->base, numerators->len,
                                samples->base, samples->len, scratch->base, scratch->len));
+}
+
+/* Coverings and list are made apart, so that many of the coverings are not in the list. */
+static void call_restore_listed(struct tally *t)
+{
+    struct frame f = make_frame();
+    count_strip(t, f);
+    struct slice *plane = lend(length_near(f.area), 8), *coverings = lend(length_near(f.blocks), 1), *list = lend_list(),
+                 *numerators = lend(length_near(f.area), 8), *samples = lend(length_near(f.area), 2), *scratch = lend(length_near(f.area), 8);
+    fill_plane(plane->base, plane->len, f);
+    fill_coverings(coverings->base, coverings->len);
+    settle();
+    uint32_t a = tetrolet_restore_listed(f.height, f.width, f.levels, plane->lib, plane->len, coverings->lib, coverings->len, list->lib, list->len,
+                                         numerators->lib, numerators->len, samples->lib, samples->len, scratch->lib, scratch->len);
+    unchanged(list);
+    if (a != TETROLET_LIST)
+        compare_entries(a, tetrolet_restore(f.height, f.width, f.levels, plane->base, plane->len, coverings->base, coverings->len, numerators->base,
+                                            numerators->len, samples->base, samples->len, scratch->base, scratch->len));
+    if (asks_plain(f.area))
+        compare_plain(t, a, plain_restore_listed(words, WORDS, f.height, f.width, f.levels, plane->plain, plane->len, coverings->plain,
+                                                 coverings->len, list->plain, list->len, numerators->plain, numerators->len, samples->plain,
+                                                 samples->len, scratch->plain, scratch->len));
+    compare(t, a, base_restore_listed(f.height, f.width, f.levels, plane->base, plane->len, coverings->base, coverings->len, list->base, list->len,
+                                      numerators->base, numerators->len, samples->base, samples->len, scratch->base, scratch->len));
 }
 
 static void call_keep(struct tally *t)
@@ -731,7 +862,9 @@ int main(int argc, char **argv)
         { call_word, { "word", 0, { 0 }, 0, 0, 0 } },
         { call_decompose, { "decompose", 0, { 0 }, 0, 0, 0 } },
         { call_within, { "within", 0, { 0 }, 0, 0, 0 } },
+        { call_listed, { "listed", 0, { 0 }, 0, 0, 0 } },
         { call_restore, { "restore", 0, { 0 }, 0, 0, 0 } },
+        { call_restore_listed, { "restore listed", 0, { 0 }, 0, 0, 0 } },
         { call_keep, { "keep", 0, { 0 }, 0, 0, 0 } },
         { call_threshold, { "threshold", 0, { 0 }, 0, 0, 0 } },
         { call_write, { "write", 0, { 0 }, 0, 0, 0 } },
@@ -756,7 +889,7 @@ int main(int argc, char **argv)
     unsigned long tall = 0, wide = 0;
     for (size_t k = 0; k < count; k++) {
         struct tally *t = &entries[k].tally;
-        printf("%-10s %8lu accepted; refused:", t->name, t->accepted);
+        printf("%-14s %8lu accepted; refused:", t->name, t->accepted);
         for (int n = 1; n < REFUSALS; n++)
             if (t->refused[n] != 0)
                 printf("  %d: %lu", n, t->refused[n]);

@@ -14,9 +14,16 @@ uint32_t plain_decompose(const uint8_t *words, size_t words_len, size_t height, 
 uint32_t plain_decompose_within(const uint8_t *words, size_t words_len, size_t height, size_t width, size_t levels, uint64_t tolerance,
                                 const uint16_t *samples, size_t samples_len, int64_t *plane, size_t plane_len, uint8_t *coverings,
                                 size_t coverings_len, int64_t *scratch, size_t scratch_len);
+uint32_t plain_decompose_listed(const uint8_t *words, size_t words_len, size_t height, size_t width, size_t levels, uint64_t tolerance,
+                                const uint16_t *samples, size_t samples_len, const uint8_t *list, size_t list_len, int64_t *plane,
+                                size_t plane_len, uint8_t *coverings, size_t coverings_len, int64_t *scratch, size_t scratch_len);
 uint32_t plain_restore(const uint8_t *words, size_t words_len, size_t height, size_t width, size_t levels, const int64_t *plane,
                        size_t plane_len, const uint8_t *coverings, size_t coverings_len, int64_t *numerators, size_t numerators_len, uint16_t *samples,
                        size_t samples_len, int64_t *scratch, size_t scratch_len);
+uint32_t plain_restore_listed(const uint8_t *words, size_t words_len, size_t height, size_t width, size_t levels, const int64_t *plane,
+                              size_t plane_len, const uint8_t *coverings, size_t coverings_len, const uint8_t *list, size_t list_len,
+                              int64_t *numerators, size_t numerators_len, uint16_t *samples, size_t samples_len, int64_t *scratch,
+                              size_t scratch_len);
 uint32_t plain_keep(size_t height, size_t width, size_t levels, int64_t *plane, size_t plane_len, uint64_t quota, size_t *left);
 uint32_t plain_threshold(size_t height, size_t width, size_t levels, int64_t *plane, size_t plane_len, uint64_t limit, size_t *left);
 uint32_t plain_write(size_t height, size_t width, size_t levels, const int64_t *plane, size_t plane_len, const uint8_t *coverings,

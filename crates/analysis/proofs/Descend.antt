@@ -11,7 +11,7 @@ use Rattle.integers.proofs.Index.{index-bound}
 use Rattle.slices.specs.Stores.{rectangles}
 use Rattle.slices.proofs.Stores.{rectangles-in, rectangles-out}
 use Rattle.counts.specs.Counts.{countsOf}
-use Rattle.terms.specs.Terms.{within, pickTerms}
+use Rattle.terms.specs.Terms.{among, pickTerms}
 use Rattle.pyramid.specs.Plane.{Image, Fits, blocks, allBlocks, after, bandsOf, analyse, Chooser, following, listed, coversAfter}
 use Rattle.pyramid.specs.Slices.{imageOf, pictureOf, sliceOf}
 use Rattle.analysis.specs.Analysis.{Region, Small, Banded, Levelled}
@@ -231,5 +231,5 @@ pub allowed-small : (t slack R left : ℕ) → t ≤ 4095 → R ≤ 8 → slack 
 allowed-small t slack R left h r e = rw e (le-trans (mul-le-mul h (pow-le-pow-right {n = 2} (omega arith) {i = suc (R - left)} {j = 9} (omega arith))) (omega arith))
 
 -- the level's choice is that of its terms
-pub levelled-as : {n m h tall wide first : ℕ} {A : Image} {old new : List ℕ} {out : List ℤ} {counts : List ℕ} → n ≡ m → Levelled (pickTerms (within n)) h tall wide first A old new out counts → Levelled (pickTerms (within m)) h tall wide first A old new out counts
-levelled-as {h} {tall} {wide} {first} {A} {old} {new} {out} {counts} e v = subst (λ (k : ℕ). Levelled (pickTerms (within k)) h tall wide first A old new out counts) e v
+pub levelled-as : {n m : ℕ} (list : List ℕ) {h tall wide first : ℕ} {A : Image} {old new : List ℕ} {out : List ℤ} {counts : List ℕ} → n ≡ m → Levelled (pickTerms (among n list)) h tall wide first A old new out counts → Levelled (pickTerms (among m list)) h tall wide first A old new out counts
+levelled-as list {h} {tall} {wide} {first} {A} {old} {new} {out} {counts} e v = subst (λ (k : ℕ). Levelled (pickTerms (among k list)) h tall wide first A old new out counts) e v

@@ -9,6 +9,7 @@ ghost use Rattle.keeping.specs.Entries.{Kept, Cut};
 ghost use Rattle.c_api.specs.Told.{Told};
 ghost use Rattle.coverings.specs.Entry.{WordAnswered};
 ghost use Rattle.coder.specs.Entries.{Decomposed, DecomposedWithin, Restored};
+ghost use Rattle.listing.specs.Entries.{DecomposedListed, RestoredListed};
 ghost use Rattle.generator.specs.Generator.{Generated};
 use refusals::Counted;
 use sheet::Reading;
@@ -81,6 +82,62 @@ pub extern "C" fn tetrolet_restore(
         levels,
         plane,
         coverings,
+        numerators,
+        samples,
+        scratch,
+    ))
+}
+
+// Decomposes a picture with a tolerance and a list of coverings; a list of all 117 gives what tetrolet_decompose_within gives.
+#[no_mangle]
+pub extern "C" fn tetrolet_decompose_listed(
+    height: usize,
+    width: usize,
+    levels: usize,
+    tolerance: u64,
+    samples: &[u16],
+    list: &[u8],
+    plane: &mut [i64],
+    coverings: &mut [u8],
+    scratch: &mut [i64],
+) -> u32
+    ensures { λ n. ⌜ DecomposedListed height width levels tolerance (now (samples .entry)) (now (list .entry)) (now (plane .entry)) (now (plane .exit)) (now (coverings .entry)) (now (coverings .exit)) (now (scratch .entry)) (now (scratch .exit)) n ⌝ }
+{
+    refusals::code(listing::decompose_listed(
+        height,
+        width,
+        levels,
+        tolerance,
+        samples,
+        list,
+        plane,
+        coverings,
+        scratch,
+    ))
+}
+
+// Restores with a list of coverings; that it is the list which was used is the caller's word.
+#[no_mangle]
+pub extern "C" fn tetrolet_restore_listed(
+    height: usize,
+    width: usize,
+    levels: usize,
+    plane: &[i64],
+    coverings: &[u8],
+    list: &[u8],
+    numerators: &mut [i64],
+    samples: &mut [u16],
+    scratch: &mut [i64],
+) -> u32
+    ensures { λ n. ⌜ RestoredListed height width levels (now (plane .entry)) (now (coverings .entry)) (now (list .entry)) (now (numerators .entry)) (now (numerators .exit)) (now (samples .entry)) (now (samples .exit)) (now (scratch .entry)) (now (scratch .exit)) n ⌝ }
+{
+    refusals::code(listing::restore_listed(
+        height,
+        width,
+        levels,
+        plane,
+        coverings,
+        list,
         numerators,
         samples,
         scratch,

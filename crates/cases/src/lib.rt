@@ -2,5 +2,6 @@
 // told. It is proved to be safe and to end, and nothing more.
 pub mod answers;
 pub mod inputs;
+pub mod lists;
 pub mod safe;
 pub mod tally;

@@ -1,5 +1,6 @@
-// The chain of the third demand: decompose with a tolerance, then keep on the plane as left, then restore what keep left, with the coverings that decomposing gave and the
-// height, the width and the levels the same throughout. What it answers and leaves, and the third demand of its own slices, is in specs/Chain.antt.
+// The chain of the third demand: decompose with a tolerance and a list of coverings, then keep on the plane as left, then restore what keep left, with the
+// coverings that decomposing gave and the height, the width and the levels the same throughout. What it answers and leaves, and the third demand of its own
+// slices, is in specs/Chain.antt.
 ghost use mathlib.Core.Path.{_≡_};
 ghost use Rattle.refusals.specs.Refusal.{answerOf, countedOf, countOf};
 ghost use Rattle.chain.specs.Chain.{chainRefusal, Chained};
@@ -7,7 +8,7 @@ use refusals::Answer;
 use refusals::Counted;
 use refusals::Refusal;
 
-// The checks of the chain, all before its first call: those of decompose_within, with restore's slices too, then the quota.
+// The checks of the chain, all before its first call: those of decompose_listed, with restore's slices too, then the quota.
 fn chain_checks(
     height: usize,
     width: usize,
@@ -15,13 +16,14 @@ fn chain_checks(
     tolerance: u64,
     quota: u64,
     samples: &[u16],
+    list: &[u8],
     plane: &[i64],
     coverings: &[u8],
     numerators: &[i64],
     restored: &[u16],
     scratch: &[i64],
 ) -> Answer
-    ensures { λ r. ⌜ answerOf r ≡ chainRefusal height width levels tolerance quota (now (samples .entry)) (now (plane .entry)) (now (coverings .entry)) (now (numerators .entry)) (now (restored .entry)) (now (scratch .entry)) ⌝ }
+    ensures { λ r. ⌜ answerOf r ≡ chainRefusal height width levels tolerance quota (now (samples .entry)) (now (list .entry)) (now (plane .entry)) (now (coverings .entry)) (now (numerators .entry)) (now (restored .entry)) (now (scratch .entry)) ⌝ }
 {
     let sized = places::checks::size_checks(height, width, levels);
     if let Answer::Refused(r) = sized {
@@ -41,6 +43,9 @@ fn chain_checks(
     if terms::largest_tolerance() < tolerance {
         return Answer::Refused(Refusal::Tolerance);
     }
+    if !listing::is_list(list) {
+        return Answer::Refused(Refusal::Listing);
+    }
     if sifting::ranks::most_entries(height as u32, width as u32, levels as u32) < quota {
         return Answer::Refused(Refusal::Quota);
     }
@@ -56,13 +61,14 @@ pub fn decompose_keep_restore(
     tolerance: u64,
     quota: u64,
     samples: &[u16],
+    list: &[u8],
     plane: &mut [i64],
     coverings: &mut [u8],
     numerators: &mut [i64],
     restored: &mut [u16],
     scratch: &mut [i64],
 ) -> Counted
-    ensures { λ r. ⌜ Chained height width levels tolerance quota (now (samples .entry)) (now (plane .entry)) (now (plane .exit)) (now (coverings .entry)) (now (coverings .exit)) (now (numerators .entry)) (now (numerators .exit)) (now (restored .entry)) (now (restored .exit)) (now (scratch .entry)) (now (scratch .exit)) (countedOf r) (countOf r) ⌝ }
+    ensures { λ r. ⌜ Chained height width levels tolerance quota (now (samples .entry)) (now (list .entry)) (now (plane .entry)) (now (plane .exit)) (now (coverings .entry)) (now (coverings .exit)) (now (numerators .entry)) (now (numerators .exit)) (now (restored .entry)) (now (restored .exit)) (now (scratch .entry)) (now (scratch .exit)) (countedOf r) (countOf r) ⌝ }
 {
     let found = chain_checks(
         height,
@@ -71,6 +77,7 @@ pub fn decompose_keep_restore(
         tolerance,
         quota,
         samples,
+        list,
         plane,
         coverings,
         numerators,
@@ -81,12 +88,13 @@ pub fn decompose_keep_restore(
         return Counted::Refused(r);
     }
     // None of the three is refused after these checks.
-    coder::decompose_within(
+    listing::decompose_listed(
         height,
         width,
         levels,
         tolerance,
         samples,
+        list,
         plane,
         coverings,
         scratch,

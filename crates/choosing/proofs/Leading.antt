@@ -1,4 +1,5 @@
--- The loops of the choice with a tolerance, over bare values: a turn of the costs with their least, and of the most frequent. Assumes nothing.
+-- The loops of the choice with a tolerance, over bare values: a turn of the costs with their least, and of the most frequent; and that what they find is the
+-- choice. Assumes nothing.
 use mathlib.Core.Path.{_≡_, refl, sym, ap, _∙_, subst, subst⁻¹}
 use mathlib.Core.Bool.{Bool, true, false, cond}
 use mathlib.Core.List.{List}
@@ -14,70 +15,72 @@ use lib.ListN.{length, getD, set, length-set}
 use lib.Seq.{getD-set-same, getD-set-other}
 use Rattle.coverings.specs.Rule.{Number}
 use Rattle.block.specs.Block.{countIn}
-use Rattle.terms.specs.Terms.{within, costAt, pickTerms}
-use Rattle.terms.specs.Laws.{Competes}
+use Rattle.integers.proofs.Tests.{oneOf-at, at-oneOf}
+use Rattle.terms.specs.Terms.{Terms, allNumbers, among, within, isList, costAt, pickTerms}
+use Rattle.terms.specs.Laws.{InList, Competes, WinsBy}
+use Rattle.terms.proofs.Good.{all-good, all-length, all-at, entry, entry-rises}
 use Rattle.terms.proofs.All.{only}
 use Rattle.kernel.specs.Kernel.{at}
 use Rattle.counts.specs.Counts.{countsOf}
 use Rattle.counts.proofs.Counts.{count-at}
 use Rattle.choosing.specs.Choice.{spreads, placementOf, costFrom, Low}
-use Rattle.choosing.specs.Leading.{Priced, Counted, Cheapest, standsAt, First}
+use Rattle.choosing.specs.Leading.{InRow, Holds, Priced, Counted, Cheapest, standsAt, First}
 use Rattle.choosing.specs.declared.near.Leader.{Leader}
 use Rattle.choosing.proofs.Placements.{placement-below, cost-from}
 
 -- ---- the costs, and the least of them
 
--- the first k costs are there, with the least of them
-pub record Costed (costs all : List ℕ) (least k : ℕ) : Type 0 where
-  pub to : k ≤ 117
+-- the first k costs of a row of m are there, with the least of them
+pub record Costed (m : ℕ) (cost : ℕ → ℕ) (all : List ℕ) (least k : ℕ) : Type 0 where
+  pub to : k ≤ m
   pub long : length all ≡ 117
-  pub priced : (j : ℕ) → j < k → getD all j 0 ≡ costFrom costs (suc j)
+  pub priced : (j : ℕ) → j < k → getD all j 0 ≡ cost (suc j)
   pub below : (j : ℕ) → j < k → least ≤ getD all j 0
   pub one : (j : ℕ) × (j < k) × (getD all j 0 ≡ least)
 
 -- a place more, at the place k
-set-next : (all : List ℕ) (k x : ℕ) → k < length all → (P : ℕ → ℕ → Type 0) → ((j : ℕ) → j < k → P j (getD all j 0)) → P k x → (j : ℕ) → j < suc k → P j (getD (set all k x) j 0)
+pub set-next : (all : List ℕ) (k x : ℕ) → k < length all → (P : ℕ → ℕ → Type 0) → ((j : ℕ) → j < k → P j (getD all j 0)) → P k x → (j : ℕ) → j < suc k → P j (getD (set all k x) j 0)
 set-next all k x room P p q j l = go (ℕ-discrete j k)
   where
     go : Dec (j ≡ k) → P j (getD (set all k x) j 0)
     go (yes e) = rw e (subst⁻¹ (P k) (getD-set-same all k x 0 room) q)
     go (no e) = subst⁻¹ (P j) (getD-set-other all k j x 0 e) (p j (omega (arith, e)))
 
-pub costed-first : (costs all : List ℕ) (x : ℕ) → length all ≡ 117 → x ≡ costFrom costs 1 → Costed costs (set all 0 x) x 1
-costed-first costs all x long e = record {
+pub costed-first : (m : ℕ) (cost : ℕ → ℕ) (all : List ℕ) (x : ℕ) → 0 < m → length all ≡ 117 → x ≡ cost 1 → Costed m cost (set all 0 x) x 1
+costed-first m cost all x h long e = record {
   to = omega arith;
   long = length-set all 0 x ∙ long;
-  priced = set-next all 0 x (omega arith) (λ j c. c ≡ costFrom costs (suc j)) (λ j l. absurd (omega arith)) e;
+  priced = set-next all 0 x (omega arith) (λ j c. c ≡ cost (suc j)) (λ j l. absurd (omega arith)) e;
   below = set-next all 0 x (omega arith) (λ j c. x ≤ c) (λ j l. absurd (omega arith)) (le-refl x);
   one = (0, omega arith, getD-set-same all 0 x 0 (omega arith));
 }
 
-pub costed-next : (costs all : List ℕ) (least k x r : ℕ) → Costed costs all least k → k < 117 → x ≡ costFrom costs (suc k) → r ≡ cond (ltb x least) x least → Costed costs (set all k x) r (k + 1)
-costed-next costs all least k x r b h e f = rw (add-one k, f) (go (ltb x least) refl)
+pub costed-next : (m : ℕ) (cost : ℕ → ℕ) (all : List ℕ) (least k x r : ℕ) → m ≤ 117 → Costed m cost all least k → k < m → x ≡ cost (suc k) → r ≡ cond (ltb x least) x least → Costed m cost (set all k x) r (k + 1)
+costed-next m cost all least k x r few b h e f = rw (add-one k, f) (go (ltb x least) refl)
   where
     room : k < length all
     room = omega (arith, b .long)
 
-    with-least : (c : ℕ) → c ≤ least → c ≤ x → (j : ℕ) × (j < suc k) × (getD (set all k x) j 0 ≡ c) → Costed costs (set all k x) c (suc k)
+    with-least : (c : ℕ) → c ≤ least → c ≤ x → (j : ℕ) × (j < suc k) × (getD (set all k x) j 0 ≡ c) → Costed m cost (set all k x) c (suc k)
     with-least c l m one = record {
       to = omega arith;
       long = length-set all k x ∙ b .long;
-      priced = set-next all k x room (λ j c. c ≡ costFrom costs (suc j)) (b .priced) e;
+      priced = set-next all k x room (λ j c. c ≡ cost (suc j)) (b .priced) e;
       below = set-next all k x room (λ j d. c ≤ d) (λ j i. le-trans l (b .below j i)) m;
       one = one;
     }
 
-    go : (t : Bool) → ltb x least ≡ t → Costed costs (set all k x) (cond t x least) (suc k)
+    go : (t : Bool) → ltb x least ≡ t → Costed m cost (set all k x) (cond t x least) (suc k)
     go true q = with-least x (le-of-lt (ltb-true x least q)) (le-refl x) (k, omega arith, getD-set-same all k x 0 room)
     go false q =
         let o = b .one in
         with-least least (le-refl least) (ltb-false x least q) (o .0, omega (arith, o .1), getD-set-other all k (o .0) x 0 (λ z. omega (arith, o .1)) ∙ o .2)
 
-pub costed-last : (costs all : List ℕ) (least k : ℕ) → Costed costs all least k → 117 ≤ k → Priced (costFrom costs) all × ((cost : ℕ → ℕ) → Priced cost all → Cheapest cost least)
-costed-last costs all least k b h = (
+pub costed-last : (m : ℕ) (cost : ℕ → ℕ) (all : List ℕ) (least k : ℕ) → Costed m cost all least k → m ≤ k → Priced m cost all × ((cost : ℕ → ℕ) → Priced m cost all → Cheapest m cost least)
+costed-last m first all least k b h = (
   (λ j l. b .priced j (omega arith)),
   (λ cost p. record {
-    below = λ n m. let s : suc (n - 1) ≡ n = omega arith in subst (λ (c : ℕ). least ≤ cost c) s (subst (λ (c : ℕ). least ≤ c) (p (n - 1) (omega arith)) (b .below (n - 1) (omega arith)));
+    below = λ n i. let s : suc (n - 1) ≡ n = omega arith in subst (λ (c : ℕ). least ≤ cost c) s (subst (λ (c : ℕ). least ≤ c) (p (n - 1) (omega arith)) (b .below (n - 1) (omega arith)));
     one = let o = b .one in (suc (o .0), (omega arith, omega (arith, o .1, b .to)), sym (p (o .0) (omega (arith, o .1, b .to))) ∙ o .2);
   }),
 )
@@ -194,11 +197,11 @@ module _ (count cost : ℕ → ℕ) (most : ℕ) where
   led-join : (a m b : ℕ) (x y r : Leader) → a ≤ m → m ≤ b → Led count cost most a m x → Led count cost most m b y → r ≡ cond (ltb (x .standing) (y .standing)) y x → Led count cost most a b r
   led-join a m b x y r f g p q e = rw e (go a m b x y f g p q (ltb (x .standing) (y .standing)) refl)
 
-  -- of all
-  led-all : (r : Leader) → Led count cost most 0 117 r → (n : ℕ) → Number n → cost n ≤ most → First count cost most (r .covering)
-  led-all r l n h c = on (decLt 0 (r .standing))
+  -- of the whole row
+  led-all : (m : ℕ) (r : Leader) → Led count cost most 0 m r → (n : ℕ) → InRow m n → cost n ≤ most → First m count cost most (r .covering)
+  led-all m r l n h c = on (decLt 0 (r .standing))
     where
-      on : Dec (0 < r .standing) → First count cost most (r .covering)
+      on : Dec (0 < r .standing) → First m count cost most (r .covering)
       on (yes s) = let w = l .some s .1 in record {
         number = (w .from, w .to);
         near = w .near;
@@ -207,64 +210,129 @@ module _ (count cost : ℕ → ℕ) (most : ℕ) where
       }
       on (no s) = absurd (l .none (omega arith) n (h .0) (h .1) c)
 
--- the same by the arrays, for all costs and counts that they hold
-abbrev pub Leads : List ℕ → List ℕ → ℕ → ℕ → ℕ → Leader → Type 0
-Leads all counts most a b r = (count cost : ℕ → ℕ) → Priced cost all → Counted count counts → Led count cost most a b r
+-- the same by the arrays x of costs and y of counts, for all costs and counts that they hold in a row of m
+abbrev pub Leads : ℕ → (ℕ → ℕ) → (ℕ → ℕ) → ℕ → ℕ → ℕ → Leader → Type 0
+Leads m x y most a b r = (count cost : ℕ → ℕ) → Holds m x cost → Holds m y count → Led count cost most a b r
 
-module _ (all counts : List ℕ) (most : ℕ) where
-  pub leads-none : (a : ℕ) (r : Leader) → r .standing ≡ 0 → Leads all counts most a a r
+module _ (m : ℕ) (x y : ℕ → ℕ) (most : ℕ) where
+  pub leads-none : (a : ℕ) (r : Leader) → r .standing ≡ 0 → Leads m x y most a a r
   leads-none a r e count cost p u = led-none count cost most a r e
 
   -- one covering more
-  pub leads-next : (a k : ℕ) (old new r : Leader) → a ≤ k → k < 117 → Leads all counts most a k old → (new .covering ≡ suc k) × (new .standing ≡ standsAt most (getD all k 0) (getD counts k 0))
-      → r ≡ cond (ltb (old .standing) (new .standing)) new old → Leads all counts most a (suc k) r
+  pub leads-next : (a k : ℕ) (old new r : Leader) → a ≤ k → k < m → Leads m x y most a k old → (new .covering ≡ suc k) × (new .standing ≡ standsAt most (x k) (y k))
+      → r ≡ cond (ltb (old .standing) (new .standing)) new old → Leads m x y most a (suc k) r
   leads-next a k old new r f h l c e count cost p u =
       led-join count cost most a k (suc k) old new r f (omega arith) (l count cost p u) (led-one count cost most k new (c .0) (c .1 ∙ λ j. standsAt most (p k h j) (u k h j))) e
 
-  pub leads-both : (m : ℕ) (x y r : Leader) → m ≤ 117 → Leads all counts most 0 m x → Leads all counts most m 117 y → r ≡ cond (ltb (x .standing) (y .standing)) y x
-      → (count cost : ℕ → ℕ) → Priced cost all → Counted count counts → (n : ℕ) → Number n → cost n ≤ most → First count cost most (r .covering)
-  leads-both m x y r f k l e count cost p u = led-all count cost most r (led-join count cost most 0 m 117 x y r (omega arith) f (k count cost p u) (l count cost p u) e)
+  -- two parts side by side
+  pub leads-both : (b : ℕ) (low high r : Leader) → b ≤ m → Leads m x y most 0 b low → Leads m x y most b m high → r ≡ cond (ltb (low .standing) (high .standing)) high low → Leads m x y most 0 m r
+  leads-both b low high r f k l e count cost p u = led-join count cost most 0 b m low high r (omega arith) f (k count cost p u) (l count cost p u) e
+
+  pub leads-all : (r : Leader) → Leads m x y most 0 m r → (count cost : ℕ → ℕ) → Holds m x cost → Holds m y count → (n : ℕ) → InRow m n → cost n ≤ most → First m count cost most (r .covering)
+  leads-all r l count cost p u = led-all count cost most m r (l count cost p u)
 
 -- ---- the whole choice
 
 -- a cost is far from what a sum can hold
-pub cost-low : (costs : List ℕ) → Low costs → costFrom costs 1 ≤ 2 ^ 46
+pub cost-low : (costs : List ℕ) → Low costs → (n : ℕ) → Number n → costFrom costs n ≤ 2 ^ 46
 unfolding costFrom
-cost-low costs low =
-    omega (arith, low (placementOf 1 0) (placement-below 1 0 (omega arith, omega arith) (omega arith)), low (placementOf 1 1) (placement-below 1 1 (omega arith, omega arith) (omega arith)), low (placementOf 1 2) (placement-below 1 2 (omega arith, omega arith) (omega arith)), low (placementOf 1 3) (placement-below 1 3 (omega arith, omega arith) (omega arith)))
+cost-low costs low n h =
+    omega (arith, low (placementOf n 0) (placement-below n 0 h (omega arith)), low (placementOf n 1) (placement-below n 1 h (omega arith)), low (placementOf n 2) (placement-below n 2 h (omega arith)), low (placementOf n 3) (placement-below n 3 h (omega arith)))
 
-module _ (v : List ℤ) (costs all counts : List ℕ) (slack least r : ℕ) (is : costs ≡ spreads v) (priced : Priced (costFrom costs) all)
-    (lowest : (cost : ℕ → ℕ) → Priced cost all → Cheapest cost least)
-    (leader : (count cost : ℕ → ℕ) → Priced cost all → Counted count counts → (n : ℕ) → Number n → cost n ≤ least + slack → First count cost (least + slack) r) where
+-- the n-th of a list
+abbrev pub nth : List ℕ → ℕ → ℕ
+nth list n = getD list (n - 1) 0
+
+pub place : (k : ℕ) → suc k - 1 ≡ k
+place k = omega arith
+
+-- a row of the coverings of a list: what is found in it is the choice
+module _ (v : List ℤ) (costs list all counts : List ℕ) (m slack least p : ℕ) (good : T (isList list)) (long : length list ≡ m)
+    (is : (k : ℕ) → k < m → costFrom costs (getD list k 0) ≡ costAt (at v) (getD list k 0)) (priced : Priced m (λ n. costFrom costs (nth list n)) all)
+    (lowest : (cost : ℕ → ℕ) → Priced m cost all → Cheapest m cost least)
+    (leader : (count cost : ℕ → ℕ) → Priced m cost all → Holds m (λ k. getD counts (getD list k 0 - 1) 0) count → (n : ℕ) → InRow m n → cost n ≤ least + slack → First m count cost (least + slack) p) where
+  abbrev terms : Terms
+  terms = among slack list
+
   -- the cheapest competes
-  found : (count cost : ℕ → ℕ) → Priced cost all → Counted count counts → First count cost (least + slack) r
-  found count cost p u = let b = lowest cost p .one in leader count cost p u (b .0) (b .1) (omega (arith, b .2))
+  found : (count cost : ℕ → ℕ) → Priced m cost all → Holds m (λ k. getD counts (getD list k 0 - 1) 0) count → First m count cost (least + slack) p
+  found count cost a u = let b = lowest cost a .one in leader count cost a u (b .0) (b .1) (omega (arith, b .2))
 
-  number : Number r
-  number =
-      let same : (k : ℕ) → suc k - 1 ≡ k = (λ k. omega arith) in
-      found (λ n. getD counts (n - 1) 0) (costFrom costs) priced (λ k h. ap (λ (j : ℕ). getD counts j 0) (sym (same k))) .number
+  pub row : InRow m p
+  row =
+      found (λ n. getD counts (nth list n - 1) 0) (λ n. costFrom costs (nth list n)) priced (λ k h. ap (λ (j : ℕ). getD counts (getD list j 0 - 1) 0) (sym (place k))) .number
 
-  priced-at : Priced (costAt (at v)) all
-  priced-at k h = priced k h ∙ ap (λ (l : List ℕ). costFrom l (suc k)) is ∙ cost-from v (suc k) (omega arith, omega arith)
+  nth-number : (n : ℕ) → InRow m n → Number (nth list n)
+  nth-number n h = entry list good (n - 1) (omega (arith, long))
 
-  cheapest : Cheapest (costAt (at v)) least
-  cheapest = lowest (costAt (at v)) priced-at
+  priced-at : Priced m (λ n. costAt (at v) (nth list n)) all
+  priced-at k h = priced k h ∙ ap (λ (j : ℕ). costFrom costs (getD list j 0)) (place k) ∙ is k h ∙ ap (λ (j : ℕ). costAt (at v) (getD list j 0)) (sym (place k))
 
-  chosen : (earlier : List ℕ) → counts ≡ countsOf earlier → First (λ n. countIn n earlier) (costAt (at v)) (least + slack) r
-  chosen earlier e = found (λ n. countIn n earlier) (costAt (at v)) priced-at (λ k h. ap (λ (l : List ℕ). getD l k 0) e ∙ count-at earlier k h)
+  cheapest : Cheapest m (λ n. costAt (at v) (nth list n)) least
+  cheapest = lowest (λ n. costAt (at v) (nth list n)) priced-at
 
-  -- it wins against all, and only one does
-  pub chosen-near : Number r × ((earlier : List ℕ) → counts ≡ countsOf earlier → r ≡ pickTerms (within slack) earlier (at v))
-  chosen-near = (
-    number,
-    λ earlier e. only (within slack) earlier (at v) r number (λ n h.
-        let w = chosen earlier e in
-        let b = cheapest .one in
-        let close : Competes (within slack) (at v) n → costAt (at v) n ≤ least + slack = (λ c. omega (arith, b .2, c (b .0) (b .1))) in
-        record {
-          near = omega (arith, w .near, cheapest .below n h);
-          often = λ c. w .often n h (close c);
-          first = λ c. w .first n h (close c);
-        }),
+  chosen : (earlier : List ℕ) → counts ≡ countsOf earlier → First m (λ n. countIn (nth list n) earlier) (λ n. costAt (at v) (nth list n)) (least + slack) p
+  chosen earlier e =
+      found (λ n. countIn (nth list n) earlier) (λ n. costAt (at v) (nth list n)) priced-at (λ k h.
+      let i = entry list good k (omega (arith, long)) in
+      let s : suc (getD list k 0 - 1) ≡ getD list k 0 = omega arith in
+      ap (λ (l : List ℕ). getD l (getD list k 0 - 1) 0) e ∙ count-at earlier (getD list k 0 - 1) (omega arith) ∙ ap (λ (n : ℕ). countIn n earlier) (s ∙ ap (λ (j : ℕ). getD list j 0) (sym (place k))))
+
+  -- one that is listed stands somewhere
+  placed : (n : ℕ) → InList terms n → (k : ℕ) × InRow m k × (nth list k ≡ n)
+  placed n i =
+      let o = oneOf-at list n i in
+      let s : suc (o .0) - 1 ≡ o .0 = omega arith in
+      (suc (o .0), (omega arith, omega (arith, o .1, long)), ap (λ (j : ℕ). getD list j 0) s ∙ sym (o .2))
+
+  -- it wins against each at its place
+  wins-at : (earlier : List ℕ) → counts ≡ countsOf earlier → (k : ℕ) → InRow m k → WinsBy terms earlier (at v) (nth list p) (nth list k)
+  wins-at earlier e k h =
+      let w = chosen earlier e in
+      let b = cheapest .one in
+      let close : Competes terms (at v) (nth list k) → costAt (at v) (nth list k) ≤ least + slack = (λ c. omega (arith, b .2, c (nth list (b .0)) (in-place (b .0) (b .1)))) in
+      record {
+        near = omega (arith, w .near, cheapest .below k h);
+        often = λ c. w .often k h (close c);
+        first = λ c s. entry-order (p - 1) (k - 1) (omega (arith, w .first k h (close c) s)) (omega (arith, long));
+      }
+    where
+      in-place : (n : ℕ) → InRow m n → InList terms (nth list n)
+      in-place n i = at-oneOf list (n - 1) (omega (arith, long))
+
+      entry-order : (i j : ℕ) → i ≤ j → j < length list → getD list i 0 ≤ getD list j 0
+      entry-order i j l h = go (decLt i j)
+        where
+          go : Dec (i < j) → getD list i 0 ≤ getD list j 0
+          go (yes m) = le-of-lt (entry-rises list good i j m h)
+          go (no m) = let q : i ≡ j = omega arith in rw q (le-refl (getD list j 0))
+
+  -- and only one does
+  pub chosen-listed : Number (nth list p) × ((earlier : List ℕ) → counts ≡ countsOf earlier → nth list p ≡ pickTerms (among slack list) earlier (at v))
+  chosen-listed = (
+    nth-number p row,
+    λ earlier e. only terms good earlier (at v) (nth list p) (at-oneOf list (p - 1) (omega (arith, row, long)))
+        (λ n i. let k = placed n i in subst (WinsBy terms earlier (at v) (nth list p)) (k .2) (wins-at earlier e (k .0) (k .1))),
   )
+
+-- of all coverings the n-th is n
+pub nth-all : (n : ℕ) → Number n → nth allNumbers n ≡ n
+nth-all n h = all-at (n - 1) (omega arith) ∙ omega arith
+
+module _ (v : List ℤ) (costs all counts : List ℕ) (slack least r : ℕ) (is : costs ≡ spreads v) (priced : Priced 117 (costFrom costs) all)
+    (lowest : (cost : ℕ → ℕ) → Priced 117 cost all → Cheapest 117 cost least)
+    (leader : (count cost : ℕ → ℕ) → Priced 117 cost all → Counted count counts → (n : ℕ) → Number n → cost n ≤ least + slack → First 117 count cost (least + slack) r) where
+  priced-all : Priced 117 (λ n. costFrom costs (nth allNumbers n)) all
+  priced-all k h = priced k h ∙ ap (costFrom costs) (sym (nth-all (suc k) (omega arith, omega arith)))
+
+  leader-all : (count cost : ℕ → ℕ) → Priced 117 cost all → Holds 117 (λ k. getD counts (getD allNumbers k 0 - 1) 0) count → (n : ℕ) → Number n → cost n ≤ least + slack → First 117 count cost (least + slack) r
+  leader-all count cost a u = leader count cost a (λ k h. let s : suc k - 1 ≡ k = omega arith in sym (ap (λ (j : ℕ). getD counts (j - 1) 0) (all-at k h) ∙ ap (λ (j : ℕ). getD counts j 0) s) ∙ u k h)
+
+  is-all : (k : ℕ) → k < 117 → costFrom costs (getD allNumbers k 0) ≡ costAt (at v) (getD allNumbers k 0)
+  is-all k h = ap (λ (l : List ℕ). costFrom l (getD allNumbers k 0)) is ∙ cost-from v (getD allNumbers k 0) (entry allNumbers all-good k (omega (arith, all-length)))
+
+  pub chosen-near : Number r × ((earlier : List ℕ) → counts ≡ countsOf earlier → r ≡ pickTerms (within slack) earlier (at v))
+  chosen-near =
+      let e = nth-all r (row v costs allNumbers all counts 117 slack least r all-good all-length is-all priced-all lowest leader-all) in
+      let z = chosen-listed v costs allNumbers all counts 117 slack least r all-good all-length is-all priced-all lowest leader-all in
+      (subst Number e (z .0), λ earlier q. sym e ∙ z .1 earlier q)

@@ -1,13 +1,15 @@
 -- The costs of the 89 placements, and of the coverings from them. Assumes nothing.
-use mathlib.Core.Path.{_≡_, refl, ap, _∙_}
-use mathlib.Core.Bool.{Bool, true, false, _&&_}
+use mathlib.Core.Path.{_≡_, refl, sym, ap, _∙_, subst}
+use mathlib.Core.Bool.{Bool, true, false, cond, _&&_}
 use mathlib.Core.List.{List, [], map}
-use Prim.Native.Nat.{ℕ, zero, suc, _+_, _*_, _-_, _^_, _≤_, _<_}
+use Prim.Native.Nat.{ℕ, zero, suc, _+_, _*_, _-_, _/_, _%_, _^_, _≤_, _<_}
 use native.Mathlib.Omega.{arith}
+use native.Mathlib.Decide.{ℕ-discrete}
 use borrow.Author.Tests.{lt-ltb, le-ltb, eq-eqb, ne-eqb}
 use lib.Dec.{T, eqb, eqb→eq, ltb, ltb→lt}
 use lib.IntN.{ℤ, natAbs}
-use lib.ListN.{length, getD}
+use lib.ListN.{length, getD, set}
+use lib.Seq.{getD-set-same, getD-set-other}
 use Rattle.integers.proofs.Sums.{Σℕ-cong}
 use Rattle.integers.specs.Lists.{every}
 use Rattle.integers.proofs.Tests.{both-left, both-right, upTo, upTo-at, every-at}
@@ -18,7 +20,7 @@ use Rattle.coverings.proofs.Table.{count}
 use Rattle.block.specs.Block.{signRow, valuesOf, costOf, shapesOf}
 use Rattle.tables.specs.Tables.{pieceOf, piecesOf, placeAmong, placementList, placementTable, fourTable}
 use Rattle.kernel.specs.Kernel.{at, Within}
-use Rattle.choosing.specs.Choice.{spread, placed, spreads, placementOf, costFrom, Low, precedes}
+use Rattle.choosing.specs.Choice.{spread, placed, spreads, placementOf, Needed, neededSpreads, costFrom, Low, precedes}
 use Rattle.block.proofs.Rows.{rows-cong}
 use Rattle.kernel.proofs.Kernel.{row-bound}
 use Rattle.tables.proofs.Entries.{joined-map}
@@ -100,8 +102,56 @@ cost-from v n h =
     (λ p l. spreads-at v (placementOf n p) (placement-below n p h l)
     ∙ spread-cong (placed v (placementOf n p)) (valuesOf (shapesOf (wordOf n) p) (at v)) (λ i g. ap (at v) (placement-cells n p i h l g)))
 
+-- ---- the placements of a list
+pub needed-length : (needed : List ℕ) (v : List ℤ) → length (neededSpreads needed v) ≡ 89
+unfolding neededSpreads
+needed-length needed v = length-tabulate 89 (λ k. cond (eqb (getD needed k 0) 0) 0 (spread (placed v k)))
+
+pub needed-at : (needed : List ℕ) (v : List ℤ) (k : ℕ) → k < 89 → getD (neededSpreads needed v) k 0 ≡ cond (eqb (getD needed k 0) 0) 0 (spread (placed v k))
+unfolding neededSpreads
+needed-at needed v k h = getD-tabulate 89 (λ k. cond (eqb (getD needed k 0) 0) 0 (spread (placed v k))) 0 k h
+
+-- of a covering in the list all four are there
+pub needed-price : (list needed : List ℕ) (v : List ℤ) (k : ℕ) → Needed list needed → k < length list → Number (getD list k 0) → costFrom (neededSpreads needed v) (getD list k 0) ≡ costOf (shapesOf (wordOf (getD list k 0))) (at v)
+unfolding costFrom
+needed-price list needed v k f h n = same ∙ cost-from v (getD list k 0) n
+  where
+    same : costFrom (neededSpreads needed v) (getD list k 0) ≡ costFrom (spreads v) (getD list k 0)
+    same =
+        Σℕ-cong 4 (λ p. getD (neededSpreads needed v) (placementOf (getD list k 0) p) 0) (λ p. getD (spreads v) (placementOf (getD list k 0) p) 0)
+        (λ p l.
+        let b = placement-below (getD list k 0) p n l in
+        let i = placementOf (getD list k 0) p in
+        needed-at needed v i b ∙ ap (λ (x : ℕ). cond (eqb x 0) 0 (spread (placed v i))) (f k p h l) ∙ sym (spreads-at v i b))
+
 pub spreads-low : (v : List ℤ) → Within (2 ^ 40) v → Low (spreads v)
 spreads-low v h k l =
     let small : (i : ℕ) → i < 4 → natAbs (placed v k i) ≤ 2 ^ 40 = (λ i g. h _ (placed-below (k * 4 + i) (omega arith))) in
     rw (spreads-at v k l)
     (omega (arith, row-bound 1 (placed v k) (2 ^ 40) small, row-bound 2 (placed v k) (2 ^ 40) small, row-bound 3 (placed v k) (2 ^ 40) small))
+
+pub needed-low : (needed : List ℕ) (v : List ℤ) → Within (2 ^ 40) v → Low (neededSpreads needed v)
+needed-low needed v h k l = rw (needed-at needed v k l) (go (eqb (getD needed k 0) 0))
+  where
+    go : (b : Bool) → cond b 0 (spread (placed v k)) ≤ 2 ^ 44
+    go true = omega arith
+    go false = subst (λ (n : ℕ). n ≤ 2 ^ 44) (spreads-at v k l) (spreads-low v h k l)
+
+-- a turn of the loop that marks the placements of a list, piece by piece
+abbrev pub Marked : List ℕ → List ℕ → ℕ → Type 0
+Marked list needed i = (j : ℕ) → j < i → getD needed (placementOf (getD list (j / 4) 0) (j % 4)) 0 ≡ 1
+
+pub mark-next : (list needed : List ℕ) (i x : ℕ) → x ≡ placementOf (getD list (i / 4) 0) (i % 4) → x < length needed → Marked list needed i → Marked list (set needed x 1) (i + 1)
+mark-next list needed i x e h m j l = go (ℕ-discrete (placementOf (getD list (j / 4) 0) (j % 4)) x)
+  where
+    go : Dec (placementOf (getD list (j / 4) 0) (j % 4) ≡ x) → getD (set needed x 1) (placementOf (getD list (j / 4) 0) (j % 4)) 0 ≡ 1
+    go (yes q) = ap (λ (k : ℕ). getD (set needed x 1) k 0) q ∙ getD-set-same needed x 1 0 h
+    go (no q) =
+        let other : j ≡ i → ⊥ = (λ r. q (ap (λ (k : ℕ). placementOf (getD list (k / 4) 0) (k % 4)) r ∙ sym e)) in
+        getD-set-other needed x (placementOf (getD list (j / 4) 0) (j % 4)) 1 0 q ∙ m j (omega (arith, other))
+
+pub mark-last : (list needed : List ℕ) (i : ℕ) → length list * 4 ≤ i → Marked list needed i → Needed list needed
+mark-last list needed i l m k p h g =
+    let a : (k * 4 + p) / 4 ≡ k = omega arith in
+    let b : (k * 4 + p) % 4 ≡ p = omega arith in
+    sym (λ t. getD needed (placementOf (getD list (a t) 0) (b t)) 0) ∙ m (k * 4 + p) (omega arith)

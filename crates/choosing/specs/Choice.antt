@@ -1,10 +1,11 @@
 -- The choice of a covering as the code computes it: the cost of a placement, of all placements, and the better of two coverings. Assumes nothing.
-use mathlib.Core.Bool.{Bool, _&&_, _||_}
+use mathlib.Core.Path.{_≡_}
+use mathlib.Core.Bool.{Bool, cond, _&&_, _||_}
 use mathlib.Core.List.{List}
 use Prim.Native.Nat.{ℕ, suc, _+_, _*_, _-_, _^_, _<_, _≤_}
 use lib.Dec.{eqb, ltb}
 use lib.IntN.{ℤ, natAbs}
-use lib.ListN.{getD}
+use lib.ListN.{length, getD}
 use Rattle.integers.specs.Sum.{Σℕ}
 use Rattle.integers.specs.Lists.{tabulate}
 use Rattle.block.specs.Block.{signRow}
@@ -30,6 +31,14 @@ placementOf n p = getD fourTable ((n - 1) * 4 + p) 0
 -- The cost of covering n from those of the placements.
 unfoldable pub costFrom : List ℕ → ℕ → ℕ
 costFrom costs n = Σℕ 4 (λ p. getD costs (placementOf n p) 0)
+
+-- `needed` has 1 at each placement that a covering of the list has.
+abbrev pub Needed : List ℕ → List ℕ → Type 0
+Needed list needed = (k p : ℕ) → k < length list → p < 4 → getD needed (placementOf (getD list k 0) p) 0 ≡ 1
+
+-- The absolute tetrolet coefficients of each placement that is needed, and 0 of each other.
+unfoldable pub neededSpreads : List ℕ → List ℤ → List ℕ
+neededSpreads needed v = tabulate 89 (λ k. cond (eqb (getD needed k 0) 0) 0 (spread (placed v k)))
 
 -- Costs of placements so low that the sum of four is a u64.
 abbrev pub Low : List ℕ → Type 0

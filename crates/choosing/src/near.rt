@@ -22,7 +22,7 @@ pub struct Leader {
 }
 
 // The lesser of two numbers.
-fn lesser(a: u64, b: u64) -> u64
+pub fn lesser(a: u64, b: u64) -> u64
     ensures { λ r. ⌜ r ≡ cond (ltb a b) a b ⌝ }
 {
     if a < b {
@@ -34,7 +34,7 @@ fn lesser(a: u64, b: u64) -> u64
 // Puts the cost of each covering n at n - 1, and gives the least of them.
 fn put_costs(costs: &[u64; 89], fours: &[u8; 468], all: &mut [u64; 117]) -> u64
     requires { ⌜ (now fours ≡ fourTable) × Low (now costs) × (length (now all) ≡ 117) ⌝ }
-    ensures { λ r. ⌜ Priced (costFrom (now (costs .entry))) (now (all .exit)) × ((cost : ℕ → ℕ) → Priced cost (now (all .exit)) → Cheapest cost r) ⌝ }
+    ensures { λ r. ⌜ Priced 117 (costFrom (now (costs .entry))) (now (all .exit)) × ((cost : ℕ → ℕ) → Priced 117 cost (now (all .exit)) → Cheapest 117 cost r) ⌝ }
 {
     let mut least = costs::covering_cost(costs, fours, 1);
     all[0] = least;
@@ -49,7 +49,7 @@ fn put_costs(costs: &[u64; 89], fours: &[u8; 468], all: &mut [u64; 117]) -> u64
 }
 
 // How a covering stands: 0 where it costs more than `most`, and else one more than how often it was chosen.
-fn standing(cost: u64, most: u64, count: u32) -> u64
+pub fn standing(cost: u64, most: u64, count: u32) -> u64
     ensures { λ r. ⌜ r ≡ standsAt most cost count ⌝ }
 {
     let chosen = count as u64 + 1;
@@ -60,7 +60,7 @@ fn standing(cost: u64, most: u64, count: u32) -> u64
 }
 
 // Which of two leads: the new one where it stands higher.
-fn preferred(old: Leader, new: Leader) -> Leader
+pub fn preferred(old: Leader, new: Leader) -> Leader
     ensures { λ r. ⌜ r ≡ cond (ltb (old .standing) (new .standing)) new old ⌝ }
 {
     if old.standing < new.standing {
@@ -83,7 +83,7 @@ fn placed(all: &[u64; 117], counts: &[u32; 117], most: u64, k: usize) -> Leader
 // The first of the most frequent among the coverings that cost at most `most`, if there is one. The coverings up to 59 and those above are gone through side by side, so that
 // the one leader need not wait for the other.
 fn most_frequent(all: &[u64; 117], counts: &[u32; 117], most: u64) -> u8
-    ensures { λ r. ⌜ ((count cost : ℕ → ℕ) → Priced cost (now (all .entry)) → Counted count (now (counts .entry)) → (n : ℕ) → Number n → cost n ≤ most → First count cost most r) ⌝ }
+    ensures { λ r. ⌜ ((count cost : ℕ → ℕ) → Priced 117 cost (now (all .entry)) → Counted count (now (counts .entry)) → (n : ℕ) → Number n → cost n ≤ most → First 117 count cost most r) ⌝ }
 {
     let none = Leader {
         covering: 0,

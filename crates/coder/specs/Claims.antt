@@ -6,10 +6,10 @@ use Prim.Native.Nat.{ℕ, _*_, _^_, _≤_}
 use lib.Dec.{T}
 use lib.IntN.{ℤ, pos}
 use lib.ListN.{length}
-use Rattle.integers.specs.Lists.{every}
-use Rattle.terms.specs.Terms.{within}
-use Rattle.pyramid.specs.Plane.{allBlocks, listed}
-use Rattle.pyramid.specs.Near.{Near}
+use Rattle.integers.specs.Lists.{every, oneOf}
+use Rattle.terms.specs.Terms.{Terms, within, allNumbers}
+use Rattle.pyramid.specs.Plane.{allBlocks}
+use Rattle.pyramid.specs.Near.{Near, NearEvery}
 use Rattle.pyramid.specs.Settled.{SettledBy}
 use Rattle.pyramid.specs.Sides.{isSides, isDepth}
 use Rattle.pyramid.specs.Slices.{pictureOf, coversOf, planeOf, numeratorsOf, samplesOf}
@@ -23,12 +23,15 @@ pub record Picture (height width levels : ℕ) (samples : List ℕ) : Type 0 whe
   pub long : length samples ≡ width * height
   pub small : T (every isSample samples)
 
--- What decomposing with a tolerance leaves of an accepted picture.
-pub record Left (height width levels tolerance : ℕ) (samples : List ℕ) (plane : List ℤ) (coverings : List ℕ) : Type 0 where
+-- What decomposing on terms t, a tolerance and a list of coverings, leaves of an accepted picture.
+pub record Left (t : Terms) (height width levels : ℕ) (samples : List ℕ) (plane : List ℤ) (coverings : List ℕ) : Type 0 where
   -- document 02, wish 6: of the coverings that compete "the most frequent wins, then the lowest number"
-  pub settled : SettledBy (within tolerance) levels height width coverings (pictureOf height samples)
-  -- each "costs at most t times 2^r more than every other cutting at level r"
-  pub near : Near (within tolerance) 0 levels height width (listed coverings) (pictureOf height samples)
+  pub settled : SettledBy t levels height width coverings (pictureOf height samples)
+  -- wish 7: each is in the list, and "costs at most t times 2^r more than every other one in the list"
+  pub stand : T (every (oneOf (t .list)) coverings)
+  pub near : Near t levels height width coverings (pictureOf height samples)
+  -- "with all 117 listed, that is every cutting there is"
+  pub all : t .list ≡ allNumbers → NearEvery t levels height width coverings (pictureOf height samples)
   -- restoring is not refused, with slices of exact length, and gives the picture
   pub restores : (numerators scratch : List ℤ) (restored : List ℕ) → length numerators ≡ width * height → length scratch ≡ width * height → length restored ≡ width * height
       → restoreRefusal height width levels plane coverings numerators restored scratch ≡ 0
@@ -57,6 +60,6 @@ pub record CoderLaws : Type 0 where
   -- "With t = 0 everything is as without it": number and every slice, for good and refused calls
   pub without : (height width levels : ℕ) (samples : List ℕ) (plane plane′ : List ℤ) (coverings coverings′ : List ℕ) (scratch scratch′ : List ℤ) (n : ℕ)
       → DecomposedWithin height width levels 0 samples plane plane′ coverings coverings′ scratch scratch′ n ↔ Decomposed height width levels samples plane plane′ coverings coverings′ scratch scratch′ n
-  -- what it leaves is what the wish words, and the picture
+  -- what it leaves is what the wish words, and the picture; all coverings are listed
   pub left : (height width levels tolerance : ℕ) (samples : List ℕ) (plane plane′ : List ℤ) (coverings coverings′ : List ℕ) (scratch scratch′ : List ℤ)
-      → DecomposedWithin height width levels tolerance samples plane plane′ coverings coverings′ scratch scratch′ 0 → Left height width levels tolerance samples plane′ coverings′
+      → DecomposedWithin height width levels tolerance samples plane plane′ coverings coverings′ scratch scratch′ 0 → Left (within tolerance) height width levels samples plane′ coverings′

@@ -39,12 +39,16 @@ pub record Decomposed (height width levels : ℕ) (samples : List ℕ) (plane pl
   pub covers : coverings′ ≡ afterCall n (coversOf levels height width samples) coverings
   pub zeros : scratch′ ≡ afterCall n (replicate (width * height) (pos 0)) scratch
 
--- Document 02, wish 6: "13 when t is over 4,095, after 4."
-abbrev pub withinRefusal : ℕ → ℕ → ℕ → ℕ → List ℕ → List ℤ → List ℕ → List ℤ → ℕ
-withinRefusal height width levels tolerance samples plane coverings scratch =
+-- Document 02, wish 6: "13 when t is over 4,095, after 4." Behind these five checks go the others.
+abbrev pub toleranceRefusal : ℕ → ℕ → ℕ → ℕ → List ℕ → List ℤ → List ℕ → List ℤ → ℕ → ℕ
+toleranceRefusal height width levels tolerance samples plane coverings scratch rest =
     pictureRefusal height width levels samples plane coverings scratch
     (refuseIf (ltb 4095 tolerance) 13
-    0)
+    rest)
+
+-- There are none.
+abbrev pub withinRefusal : ℕ → ℕ → ℕ → ℕ → List ℕ → List ℤ → List ℕ → List ℤ → ℕ
+withinRefusal height width levels tolerance samples plane coverings scratch = toleranceRefusal height width levels tolerance samples plane coverings scratch 0
 
 -- Wish 6: what decomposing with a tolerance answers and leaves.
 pub record DecomposedWithin (height width levels tolerance : ℕ) (samples : List ℕ) (plane plane′ : List ℤ) (coverings coverings′ : List ℕ) (scratch scratch′ : List ℤ) (n : ℕ) : Type 0 where
@@ -53,14 +57,19 @@ pub record DecomposedWithin (height width levels tolerance : ℕ) (samples : Lis
   pub covers : coverings′ ≡ afterCall n (coversBy (within tolerance) levels height width samples) coverings
   pub zeros : scratch′ ≡ afterCall n (replicate (width * height) (pos 0)) scratch
 
--- Document 01: "restore 1 2 3 5 6".
-abbrev pub restoreRefusal : ℕ → ℕ → ℕ → List ℤ → List ℕ → List ℤ → List ℕ → List ℤ → ℕ
-restoreRefusal height width levels plane coverings numerators samples scratch =
+-- Document 01: "restore 1 2 3 5 6". The first three, before the others.
+abbrev pub frameRefusal : ℕ → ℕ → ℕ → List ℤ → List ℕ → List ℤ → List ℕ → List ℤ → ℕ → ℕ
+frameRefusal height width levels plane coverings numerators samples scratch rest =
     sizeRefusal height width levels
     (refuseIf (not (isPlane height width plane && (isCoverings levels height width coverings && (isPlane height width numerators && (isPlane height width samples && isPlane height width scratch))))) 3
+    rest)
+
+abbrev pub restoreRefusal : ℕ → ℕ → ℕ → List ℤ → List ℕ → List ℤ → List ℕ → List ℤ → ℕ
+restoreRefusal height width levels plane coverings numerators samples scratch =
+    frameRefusal height width levels plane coverings numerators samples scratch
     (refuseIf (not (every isNumber coverings)) 5
     (refuseIf (not (inRange levels height width (imageOf height plane))) 6
-    0)))
+    0))
 
 -- "Numerators are given beside samples."
 pub record Restored (height width levels : ℕ) (plane : List ℤ) (coverings : List ℕ) (numerators numerators′ : List ℤ) (samples samples′ : List ℕ) (scratch scratch′ : List ℤ) (n : ℕ) : Type 0 where

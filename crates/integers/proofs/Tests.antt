@@ -67,6 +67,10 @@ true-at m n h = is-true (ltb m n) (lt→ltb m n h)
 pub false-at : (m n : ℕ) → n ≤ m → ltb m n ≡ false
 false-at m n h = is-false (ltb m n) (λ t. let l = ltb→lt m n t in omega arith)
 
+pub and-false : (b : Bool) → (b && false) ≡ false
+and-false true = refl
+and-false false = refl
+
 -- the test passes at each number below n
 abbrev pub upTo : ℕ → (ℕ → Bool) → Bool
 upTo zero g = true
@@ -110,6 +114,12 @@ oneOf-at (k ∷ ks) n t = go (oneOf-at ks n) (either (eqb n k) (oneOf ks n) t)
     go : (T (oneOf ks n) → (i : ℕ) × (i < length ks) × (n ≡ getD ks i 0)) → T (eqb n k) ⊎ T (oneOf ks n) → (i : ℕ) × (i < length (k ∷ ks)) × (n ≡ getD (k ∷ ks) i 0)
     go ih (inl e) = (0, omega arith, eqb→eq n k e)
     go ih (inr h) = let r = ih h in (suc (r .0), omega (arith, r .1), r .2)
+
+-- and what stands in a list is one of it
+pub at-oneOf : (ks : List ℕ) (i : ℕ) → i < length ks → T (oneOf ks (getD ks i 0))
+at-oneOf [] i h = absurd (not-suc-le-zero h)
+at-oneOf (k ∷ ks) zero h = or-left (eqb k k) (oneOf ks k) (eqb-refl k)
+at-oneOf (k ∷ ks) (suc i) h = or-right (eqb (getD ks i 0) k) (oneOf ks (getD ks i 0)) (at-oneOf ks i (le-of-suc-le-suc h))
 
 -- a loop that tests one entry after the other
 pub every-next : {A : Type 0} (g : A → Bool) (xs : List A) (d : A) (i : ℕ) → i < length xs → g (getD xs i d) ≡ true → every g (drop i xs) ≡ every g (drop (i + 1) xs)

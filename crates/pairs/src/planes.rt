@@ -24,7 +24,7 @@ pub struct Plane {
     pub covering: u8,
 }
 
-fn plane_of(k: Plane) -> [i64; 65] {
+pub fn plane_of(k: Plane) -> [i64; 65] {
     let mut plane = [0i64; 65];
     put_value(&mut plane, k.at, k.value);
     plane

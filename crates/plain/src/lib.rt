@@ -4,10 +4,11 @@
 // and places go through the guarded helpers of `plain_frame`. Its time grows with the square of the picture's area, so it is meant for areas up to
 // 1,024; every height and width is taken.
 //
-// The entries: `tiles::list_words` and, lent its words, `tiles::pieces`, `pyramid::decompose`, `pyramid::decompose_within` and `pyramid::restore`;
-// `cut::keep` and `cut::cut`; `generated::test_image`. A refusal is its number, and 0 stands for accepted; `cut` answers with an `Outcome`, which has a count
-// beside it. Texts are in `plain_text`, the cutter in `plain_cutter`.
+// The entries: `tiles::list_words` and, lent its words, `tiles::pieces`, `pyramid::decompose`, `pyramid::decompose_within`, `pyramid::decompose_listed`,
+// `pyramid::restore` and `pyramid::restore_listed`; `cut::keep` and `cut::cut`; `generated::test_image`. A refusal is its number, and 0 stands for accepted;
+// `cut` answers with an `Outcome`, which has a count beside it. Texts are in `plain_text`, the cutter in `plain_cutter`.
 mod block;
+mod choice;
 pub mod cut;
 pub mod generated;
 pub mod pyramid;

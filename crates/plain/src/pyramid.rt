@@ -3,10 +3,12 @@ use crate::block::Corner;
 use crate::block::Four;
 use crate::block::best_labels;
 use crate::block::cell_index;
-use crate::block::cost;
 use crate::block::label;
 use crate::block::piece_result;
 use crate::block::signs;
+use crate::choice::Rule;
+use crate::choice::choose_by;
+use crate::choice::every_covering;
 use crate::tiles::piece_at;
 use plain_frame::frame::Extent;
 use plain_frame::frame::Spot;
@@ -15,10 +17,10 @@ use plain_frame::frame::band_of;
 use plain_frame::frame::block_in_level;
 use plain_frame::frame::blocks_before;
 use plain_frame::frame::contents;
+use plain_frame::frame::is_list;
 use plain_frame::frame::lengths;
 use plain_frame::frame::level_blocks;
 use plain_frame::frame::power;
-use plain_frame::frame::times_chosen;
 use plain_frame::safe::add;
 use plain_frame::safe::byte_at;
 use plain_frame::safe::clear;
@@ -32,7 +34,6 @@ use plain_frame::safe::rest;
 use plain_frame::safe::sample_at;
 use plain_frame::safe::size;
 use plain_frame::safe::times;
-use plain_frame::safe::total;
 use plain_frame::safe::value_at;
 
 // Copies the upper left part that a level is about, the whole plane for level 1.
@@ -63,117 +64,6 @@ fn load(samples: &[u16], plane: &mut [i64]) {
     while i < samples.len() {
         put_value(plane, i, sample_at(samples, i));
         i += 1;
-    }
-}
-
-// How the covering of a block is chosen: with a tolerance, or without one.
-enum Rule {
-    Least,
-    Within(u64),
-}
-
-// Without a tolerance: the least cost; then the most often chosen in the blocks before, those of the earlier levels too; then the lowest number.
-fn choose(words: &[u8], image: &[i64], at: Corner, coverings: &[u8], before: usize) -> u8 {
-    let mut best: u8 = 1;
-    let mut least = cost(words, 1, image, at);
-    let mut most = times_chosen(coverings, before, 1);
-    let mut covering: u8 = 2;
-    while covering < 118 {
-        let now = cost(words, covering, image, at);
-        let chosen = times_chosen(coverings, before, covering);
-        if now < least {
-            best = covering;
-            least = now;
-            most = chosen;
-        } else {
-            if now == least {
-                if most < chosen {
-                    best = covering;
-                    most = chosen;
-                }
-            }
-        }
-        covering += 1;
-    }
-    best
-}
-
-// The least that a covering of the block costs.
-fn least_cost(words: &[u8], image: &[i64], at: Corner) -> u64 {
-    let mut least = cost(words, 1, image, at);
-    let mut covering: u8 = 2;
-    while covering < 118 {
-        let now = cost(words, covering, image, at);
-        if now < least {
-            least = now;
-        }
-        covering += 1;
-    }
-    least
-}
-
-// Of the coverings that cost at most `limit` the most often chosen in the blocks before, then the lowest number: from the last number to the first, each
-// that was chosen at least as often as the best so far is better.
-fn most_frequent(
-    words: &[u8],
-    image: &[i64],
-    at: Corner,
-    coverings: &[u8],
-    before: usize,
-    limit: u64,
-) -> u8 {
-    let mut best: u8 = 0;
-    let mut most: usize = 0;
-    let mut covering: u8 = 117;
-    while 0 < covering {
-        if cost(words, covering, image, at) <= limit {
-            let chosen = times_chosen(coverings, before, covering);
-            if most <= chosen {
-                best = covering;
-                most = chosen;
-            }
-        }
-        covering -= 1;
-    }
-    best
-}
-
-// With a tolerance: at this level a covering may cost the tolerance times 2^level more than the least.
-fn choose_within(
-    words: &[u8],
-    image: &[i64],
-    at: Corner,
-    coverings: &[u8],
-    before: usize,
-    tolerance: u64,
-    level: usize,
-) -> u8 {
-    let slack = times(tolerance as usize, power(level));
-    let limit = total(least_cost(words, image, at), slack as u64);
-    most_frequent(words, image, at, coverings, before, limit)
-}
-
-// A tolerance of 0 is not sent to `choose`: that the two then give the same is seen by running both.
-fn choose_by(
-    words: &[u8],
-    rule: Rule,
-    image: &[i64],
-    at: Corner,
-    coverings: &[u8],
-    before: usize,
-    level: usize,
-) -> u8 {
-    match rule {
-        Rule::Least => choose(words, image, at, coverings, before),
-        Rule::Within(tolerance) => choose_within(
-            words,
-            image,
-            at,
-            coverings,
-            before,
-            tolerance,
-            level,
-        ),
     }
 }
 
@@ -267,6 +157,7 @@ fn split_pieces(
 
 fn split_block(
     words: &[u8],
+    list: &[u8],
     rule: Rule,
     image: &[i64],
     plane: &mut [i64],
@@ -278,13 +169,14 @@ fn split_block(
     let p = block_in_level(extent, level, n);
     let now = plus(blocks_before(extent, level), n);
     let at = corner(extent.height, p);
-    let covering = choose_by(words, rule, image, at, coverings, now, level);
+    let covering = choose_by(words, list, rule, image, at, coverings, now, level);
     put_byte(coverings, now, covering);
     split_pieces(words, covering, image, plane, extent, p);
 }
 
 fn split_level(
     words: &[u8],
+    list: &[u8],
     rule: Rule,
     plane: &mut [i64],
     scratch: &mut [i64],
@@ -296,13 +188,24 @@ fn split_level(
     let blocks = level_blocks(extent, level);
     let mut n: usize = 0;
     while n < blocks {
-        split_block(words, rule, scratch, plane, coverings, extent, level, n);
+        split_block(
+            words,
+            list,
+            rule,
+            scratch,
+            plane,
+            coverings,
+            extent,
+            level,
+            n,
+        );
         n += 1;
     }
 }
 
 fn split(
     words: &[u8],
+    list: &[u8],
     rule: Rule,
     extent: Extent,
     levels: usize,
@@ -313,7 +216,7 @@ fn split(
     let mut level: usize = 0;
     while level < levels {
         level += 1;
-        split_level(words, rule, plane, scratch, coverings, extent, level);
+        split_level(words, list, rule, plane, scratch, coverings, extent, level);
     }
     clear(scratch);
 }
@@ -370,8 +273,10 @@ pub fn decompose(
         return bad;
     }
     load(samples, plane);
+    let list = every_covering();
     split(
         words,
+        &list,
         Rule::Least,
         extent,
         levels,
@@ -431,8 +336,83 @@ pub fn decompose_within(
         return bad;
     }
     load(samples, plane);
+    let list = every_covering();
     split(
         words,
+        &list,
+        Rule::Within(tolerance),
+        extent,
+        levels,
+        plane,
+        scratch,
+        coverings,
+    );
+    0
+}
+
+// The same, and check 14.
+fn listed_refusal(
+    extent: Extent,
+    levels: usize,
+    tolerance: u64,
+    samples: &[u16],
+    list: &[u8],
+    plane: usize,
+    coverings: usize,
+    scratch: usize,
+) -> u32 {
+    let bad = within_refusal(
+        extent,
+        levels,
+        tolerance,
+        samples,
+        plane,
+        coverings,
+        scratch,
+    );
+    if bad != 0 {
+        return bad;
+    }
+    if !is_list(list) {
+        return 14;
+    }
+    0
+}
+
+// Decomposes a picture by the coverings of a list, with a tolerance. `words` are those of `list_words`.
+pub fn decompose_listed(
+    words: &[u8],
+    height: usize,
+    width: usize,
+    levels: usize,
+    tolerance: u64,
+    samples: &[u16],
+    list: &[u8],
+    plane: &mut [i64],
+    coverings: &mut [u8],
+    scratch: &mut [i64],
+) -> u32 {
+    let extent = Extent {
+        height: height,
+        width: width,
+    };
+    let bad = listed_refusal(
+        extent,
+        levels,
+        tolerance,
+        samples,
+        list,
+        plane.len(),
+        coverings.len(),
+        scratch.len(),
+    );
+    if bad != 0 {
+        return bad;
+    }
+    load(samples, plane);
+    split(
+        words,
+        list,
         Rule::Within(tolerance),
         extent,
         levels,
@@ -602,6 +582,48 @@ fn round_all(numerators: &[i64], samples: &mut [u16], levels: usize) {
     }
 }
 
+// Checks 1 to 3; the last five are the lengths of their slices.
+fn restore_lengths(
+    extent: Extent,
+    levels: usize,
+    plane: usize,
+    coverings: usize,
+    scratch: usize,
+    numerators: usize,
+    samples: usize,
+) -> u32 {
+    let bad = lengths(extent, levels, plane, coverings);
+    if bad != 0 {
+        return bad;
+    }
+    if scratch != plane {
+        return 3;
+    }
+    if numerators != plane {
+        return 3;
+    }
+    if samples != plane {
+        return 3;
+    }
+    0
+}
+
+// The numerators and the samples of a plane.
+fn restore_all(
+    words: &[u8],
+    extent: Extent,
+    levels: usize,
+    plane: &[i64],
+    coverings: &[u8],
+    scratch: &mut [i64],
+    numerators: &mut [i64],
+    samples: &mut [u16],
+) {
+    copy_image(plane, numerators, extent, 1);
+    join(words, coverings, numerators, scratch, extent, levels);
+    round_all(numerators, samples, levels);
+}
+
 // Checks 1, 2, 3, 5 and 6; the last three are the lengths of their slices.
 fn restore_refusal(
     extent: Extent,
@@ -612,19 +634,17 @@ fn restore_refusal(
     numerators: usize,
     samples: usize,
 ) -> u32 {
-    let n = plane.len();
-    let bad = lengths(extent, levels, n, coverings.len());
+    let bad = restore_lengths(
+        extent,
+        levels,
+        plane.len(),
+        coverings.len(),
+        scratch,
+        numerators,
+        samples,
+    );
     if bad != 0 {
         return bad;
-    }
-    if scratch != n {
-        return 3;
-    }
-    if numerators != n {
-        return 3;
-    }
-    if samples != n {
-        return 3;
     }
     contents(extent, levels, plane, coverings)
 }
@@ -657,8 +677,87 @@ pub fn restore(
     if bad != 0 {
         return bad;
     }
-    copy_image(plane, numerators, extent, 1);
-    join(words, coverings, numerators, scratch, extent, levels);
-    round_all(numerators, samples, levels);
+    restore_all(
+        words,
+        extent,
+        levels,
+        plane,
+        coverings,
+        scratch,
+        numerators,
+        samples,
+    );
+    0
+}
+
+// Checks 1, 2, 3, 14, 5 and 6; the last three are the lengths of their slices.
+fn restore_listed_refusal(
+    extent: Extent,
+    levels: usize,
+    plane: &[i64],
+    coverings: &[u8],
+    list: &[u8],
+    scratch: usize,
+    numerators: usize,
+    samples: usize,
+) -> u32 {
+    let bad = restore_lengths(
+        extent,
+        levels,
+        plane.len(),
+        coverings.len(),
+        scratch,
+        numerators,
+        samples,
+    );
+    if bad != 0 {
+        return bad;
+    }
+    if !is_list(list) {
+        return 14;
+    }
+    contents(extent, levels, plane, coverings)
+}
+
+// Restores a picture from its plane, with a list. That the coverings stand in it is not asked. `words` are those of `list_words`.
+pub fn restore_listed(
+    words: &[u8],
+    height: usize,
+    width: usize,
+    levels: usize,
+    plane: &[i64],
+    coverings: &[u8],
+    list: &[u8],
+    scratch: &mut [i64],
+    numerators: &mut [i64],
+    samples: &mut [u16],
+) -> u32 {
+    let extent = Extent {
+        height: height,
+        width: width,
+    };
+    let bad = restore_listed_refusal(
+        extent,
+        levels,
+        plane,
+        coverings,
+        list,
+        scratch.len(),
+        numerators.len(),
+        samples.len(),
+    );
+    if bad != 0 {
+        return bad;
+    }
+    restore_all(
+        words,
+        extent,
+        levels,
+        plane,
+        coverings,
+        scratch,
+        numerators,
+        samples,
+    );
     0
 }

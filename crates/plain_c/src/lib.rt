@@ -70,6 +70,33 @@ pub extern "C" fn plain_decompose_within(
 }
 
 #[no_mangle]
+pub extern "C" fn plain_decompose_listed(
+    words: &[u8],
+    height: usize,
+    width: usize,
+    levels: usize,
+    tolerance: u64,
+    samples: &[u16],
+    list: &[u8],
+    plane: &mut [i64],
+    coverings: &mut [u8],
+    scratch: &mut [i64],
+) -> u32 {
+    plain::pyramid::decompose_listed(
+        words,
+        height,
+        width,
+        levels,
+        tolerance,
+        samples,
+        list,
+        plane,
+        coverings,
+        scratch,
+    )
+}
+
+#[no_mangle]
 pub extern "C" fn plain_restore(
     words: &[u8],
     height: usize,
@@ -88,6 +115,33 @@ pub extern "C" fn plain_restore(
         levels,
         plane,
         coverings,
+        scratch,
+        numerators,
+        samples,
+    )
+}
+
+#[no_mangle]
+pub extern "C" fn plain_restore_listed(
+    words: &[u8],
+    height: usize,
+    width: usize,
+    levels: usize,
+    plane: &[i64],
+    coverings: &[u8],
+    list: &[u8],
+    numerators: &mut [i64],
+    samples: &mut [u16],
+    scratch: &mut [i64],
+) -> u32 {
+    plain::pyramid::restore_listed(
+        words,
+        height,
+        width,
+        levels,
+        plane,
+        coverings,
+        list,
         scratch,
         numerators,
         samples,

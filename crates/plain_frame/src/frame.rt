@@ -306,6 +306,29 @@ pub fn all_coverings(coverings: &[u8]) -> bool {
     true
 }
 
+// Whether each entry is over the one before it.
+fn rises(list: &[u8]) -> bool {
+    let mut i: usize = 1;
+    while i < list.len() {
+        if byte_at(list, i) <= byte_at(list, minus(i, 1)) {
+            return false;
+        }
+        i += 1;
+    }
+    true
+}
+
+// Check 14.
+pub fn is_list(list: &[u8]) -> bool {
+    if list.len() == 0 {
+        return false;
+    }
+    if !all_coverings(list) {
+        return false;
+    }
+    rises(list)
+}
+
 // Checks 5 and 6.
 pub fn contents(extent: Extent, levels: usize, plane: &[i64], coverings: &[u8]) -> u32 {
     if !all_coverings(coverings) {

@@ -20,6 +20,7 @@ use Rattle.block.proofs.Pick.{pick-number, pick-lowest}
 use Rattle.terms.specs.Terms.{within, costAt, pickTerms}
 use Rattle.terms.specs.Laws.{Competes}
 use Rattle.terms.proofs.All.{only}
+use Rattle.terms.proofs.Good.{all-good, all-listed}
 use Rattle.published.specs.Published.{publishedCost, firstOf, almost, relaxedChoice}
 use Rattle.published.specs.Laws.{Almost, AlmostMin}
 use Rattle.published.proofs.Halves.{cost-even}
@@ -129,12 +130,12 @@ module _ (c : ℕ) (earlier : List ℕ) (v : ℕ → ℤ) where
 
   -- one that competes within s is almost optimal within c * s
   competing : (s n : ℕ) → Competes (within s) v n → Almost (c * s) even n
-  competing s n f m h = rw (cost n, cost m, ← mul-add c (costAt v m) s) (mul-le-mul-left c (f m h))
+  competing s n f m h = rw (cost n, cost m, ← mul-add c (costAt v m) s) (mul-le-mul-left c (f m (all-listed m .1 h)))
 
   -- so the choice wins against all by our rule, and only one does
   pub relaxed-even : 0 < c → (s : ℕ) → relaxedChoice (c * s) earlier even ≡ pickTerms (within s) earlier v
-  relaxed-even some s = only (within s) earlier v r (chosen (c * s) earlier even .number) (λ n h.
-      let a = almost-min (c * s) n h in
+  relaxed-even some s = only (within s) all-good earlier v r (all-listed r .1 (chosen (c * s) earlier even .number)) (λ n i.
+      let a = almost-min (c * s) n (all-listed n .0 i) in
       record {
         near = le-of-mul-le-mul-left (rw (cost r, cost n, ← mul-add c (costAt v n) s) at (a .near)) some;
         often = λ f. a .often (competing s n f);

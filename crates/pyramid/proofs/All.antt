@@ -6,7 +6,8 @@ use native.Mathlib.Nat.{one-mul}
 use lib.ListN.{length, length-append}
 use mathlib.Core.List.{List}
 use Rattle.integers.specs.Sum.{sq, total}
-use Rattle.terms.specs.Terms.{Terms}
+use lib.Dec.{T}
+use Rattle.terms.specs.Terms.{Terms, isList}
 use Rattle.pyramid.specs.Plane.{Fits, numerators, Numbers, allBlocks, halved}
 use Rattle.integers.specs.Lists.{tabulate}
 use Rattle.integers.proofs.Tabulate.{length-tabulate}
@@ -18,7 +19,7 @@ use Rattle.pyramid.proofs.Energy.{lowTotal, energy}
 use Rattle.pyramid.proofs.Ranges.{in-range}
 use Rattle.pyramid.proofs.Sides.{size-laws}
 use Rattle.pyramid.proofs.Bounds.{bounds, rounded, exactly}
-use Rattle.pyramid.proofs.Choose.{covers-length, covers-numbers, covers-least, covers-settled, on-length, on-numbers, on-near, on-settled, on-without}
+use Rattle.pyramid.proofs.Choose.{covers-length, covers-numbers, covers-least, covers-settled, on-length, on-numbers, on-stand, on-near, on-all, on-settled, on-without}
 use Rattle.pyramid.proofs.Only.{covers-only, on-only}
 use Rattle.pyramid.proofs.Places.{All, places-inside}
 use Rattle.pyramid.proofs.Order.{numberIn, plane-inside, number-of, plane-count, entry-at}
@@ -71,14 +72,16 @@ placed (suc R) h w f l = record {
   tested = ranged R h w;
 }
 
-on-terms : (t : Terms) (R h w : ℕ) → Fits R h w → (s : List ℕ) → ChosenLaws t R h w s
-on-terms t R h w f s = record {
+on-terms : (t : Terms) → T (isList (t .list)) → (R h w : ℕ) → Fits R h w → (s : List ℕ) → ChosenLaws t R h w s
+on-terms t g R h w f s = record {
   lengths = on-length t R h w (pictureOf h s);
-  numbers = on-numbers t R h w (pictureOf h s);
-  near = on-near t R h w f (pictureOf h s);
-  settled = on-settled t R h w f (pictureOf h s);
-  only = on-only t R h w f (pictureOf h s);
-  exactly = exactly R h w f (coversBy t R h w s) (on-numbers t R h w (pictureOf h s)) s;
+  numbers = on-numbers t g R h w (pictureOf h s);
+  stand = on-stand t g R h w (pictureOf h s);
+  near = on-near t g R h w f (pictureOf h s);
+  all = λ e. on-all t e R h w f (pictureOf h s);
+  settled = on-settled t g R h w f (pictureOf h s);
+  only = on-only t g R h w f (pictureOf h s);
+  exactly = exactly R h w f (coversBy t R h w s) (on-numbers t g R h w (pictureOf h s)) s;
 }
 
 pub laws : Laws

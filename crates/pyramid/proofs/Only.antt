@@ -4,14 +4,17 @@ use mathlib.Core.List.{List, [], _∷_, _++_, append-assoc}
 use Prim.Native.Nat.{ℕ, zero, suc, _+_, _*_, _/_, _%_, _^_, _≤_, _<_}
 use native.Mathlib.Omega.{arith}
 use native.Mathlib.Nat.{div-add-mod'}
+use lib.Dec.{T}
 use lib.IntN.{ℤ}
 use lib.ListN.{length, take, drop, length-append, length-drop, take-append-drop}
 use lib.Seq.{getD-append-add, getD-take, take-suc, take-append-add, length-take-le}
 use Rattle.coverings.specs.Rule.{Number}
 use Rattle.block.specs.Block.{pick}
 use Rattle.block.specs.Laws.{Wins}
-use Rattle.terms.specs.Terms.{Terms, within, atLevel}
-use Rattle.terms.specs.Laws.{WinsBy}
+use Rattle.integers.specs.Lists.{every, oneOf}
+use Rattle.integers.proofs.Tests.{every-at}
+use Rattle.terms.specs.Terms.{Terms, among, isList, atLevel}
+use Rattle.terms.specs.Laws.{InList, WinsBy}
 use Rattle.terms.proofs.All as terms
 use Rattle.block.proofs.Pick.{pick-number, pick-wins, pick-cong, wins-once}
 use Rattle.integers.proofs.Index.{index-bound, index-place}
@@ -83,28 +86,29 @@ ruled-only rule reads d before (suc R) h w f A cs long s = go (ruled-only rule r
             ∙ after-cong rule reads (suc d) (before ++ first) R (h / 2) (w / 2) (f .2) image (bandsOf h (listed first) A 0)
             (bands-same h w (f .0) (f .1) A (after (length before) (listed (before ++ cs))) (listed first) (λ k l. getD-append-add before cs k 0 ∙ sym (getD-take (blocks h w) cs k 0 l)) 0)
 
--- the numbers beside what is said
-each-numbers : (S : Saying) (d k R h w : ℕ) (cs : List ℕ) (A : Image) → Numbers (k + allBlocks R h w) (listed cs) → EachBlock S d k R h w cs A → EachBlock (λ r earlier v c. Number c × S r earlier v c) d k R h w cs A
-each-numbers S d k zero h w cs A ns s = tt
-each-numbers S d k (suc R) h w cs A ns s = (
-  (λ i j a b. (ns (k + (j * (h / 4) + i)) (omega (arith, index-bound j i (w / 4) (h / 4) b a)), s .0 i j a b)),
-  each-numbers S (suc d) (k + blocks h w) R (h / 2) (w / 2) cs (bandsOf h (after k (listed cs)) A 0) (λ m l. ns m (omega arith)) (s .1),
-)
+-- what holds of each covering, beside what is said
+module _ (P : ℕ → Type 0) (S : Saying) where
+  each-with : (d k R h w : ℕ) (cs : List ℕ) (A : Image) → ((n : ℕ) → n < k + allBlocks R h w → P (listed cs n)) → EachBlock S d k R h w cs A → EachBlock (λ r earlier v c. P c × S r earlier v c) d k R h w cs A
+  each-with d k zero h w cs A ps s = tt
+  each-with d k (suc R) h w cs A ps s = (
+    (λ i j a b. (ps (k + (j * (h / 4) + i)) (omega (arith, index-bound j i (w / 4) (h / 4) b a)), s .0 i j a b)),
+    each-with (suc d) (k + blocks h w) R (h / 2) (w / 2) cs (bandsOf h (after k (listed cs)) A 0) (λ m l. ps m (omega arith)) (s .1),
+  )
 
--- a list of numbers, each of which is said to be what only the rule's choice is, is the rule's
-only-by : (S : Saying) (rule : ℕ → Chooser) → ((r : ℕ) → Reads (rule r)) → ((r : ℕ) (earlier : List ℕ) (v : ℕ → ℤ) (c : ℕ) → Number c → S r earlier v c → c ≡ rule r earlier v)
-    → (R h w : ℕ) → Fits R h w → (A : Image) (cs : List ℕ) → length cs ≡ allBlocks R h w → Numbers (allBlocks R h w) (listed cs) → EachBlock S 0 0 R h w cs A → cs ≡ coversAfter rule 0 [] R h w A
-only-by S rule reads one R h w f A cs long ns s =
-    ruled-only rule reads 0 [] R h w f A cs long
-    (each-map (λ r earlier v c. Number c × S r earlier v c) (Ruled rule) (λ r earlier v c z. one r earlier v c (z .0) (z .1)) 0 0 R h w cs A
-    (each-numbers S 0 0 R h w cs A (λ m l. ns m (omega arith)) s))
+  -- coverings, each of which is said to be what only the rule's choice is, are the rule's
+  only-by : (rule : ℕ → Chooser) → ((r : ℕ) → Reads (rule r)) → ((r : ℕ) (earlier : List ℕ) (v : ℕ → ℤ) (c : ℕ) → P c → S r earlier v c → c ≡ rule r earlier v)
+      → (R h w : ℕ) → Fits R h w → (A : Image) (cs : List ℕ) → length cs ≡ allBlocks R h w → ((n : ℕ) → n < allBlocks R h w → P (listed cs n)) → EachBlock S 0 0 R h w cs A → cs ≡ coversAfter rule 0 [] R h w A
+  only-by rule reads one R h w f A cs long ps s =
+      ruled-only rule reads 0 [] R h w f A cs long
+      (each-map (λ r earlier v c. P c × S r earlier v c) (Ruled rule) (λ r earlier v c z. one r earlier v c (z .0) (z .1)) 0 0 R h w cs A
+      (each-with 0 0 R h w cs A (λ m l. ps m (omega arith)) s))
 
 pub covers-only : (R h w : ℕ) → Fits R h w → (A : Image) (cs : List ℕ) → length cs ≡ allBlocks R h w → Numbers (allBlocks R h w) (listed cs) → Settled R h w cs A → cs ≡ covers R h w A
 covers-only =
-    only-by (λ r earlier v c. (n : ℕ) → Number n → Wins earlier v c n) (λ r. pick) (λ r. pick-cong)
+    only-by Number (λ r earlier v c. (n : ℕ) → Number n → Wins earlier v c n) (λ r. pick) (λ r. pick-cong)
     (λ r earlier v c m z. wins-once earlier v c (pick earlier v) (z (pick earlier v) (pick-number earlier v)) (pick-wins earlier v c m))
 
-pub on-only : (t : Terms) (R h w : ℕ) → Fits R h w → (A : Image) (cs : List ℕ) → length cs ≡ allBlocks R h w → Numbers (allBlocks R h w) (listed cs) → SettledBy t R h w cs A → cs ≡ coversOn t R h w A
-on-only t =
-    only-by (λ r earlier v c. (n : ℕ) → Number n → WinsBy (within (t .tolerance * 2 ^ r)) earlier v c n) (byTerms t) (terms-read t)
-    (λ r. terms.only (atLevel r t))
+pub on-only : (t : Terms) → T (isList (t .list)) → (R h w : ℕ) → Fits R h w → (A : Image) (cs : List ℕ) → length cs ≡ allBlocks R h w → T (every (oneOf (t .list)) cs) → SettledBy t R h w cs A → cs ≡ coversOn t R h w A
+on-only t g R h w f A cs long stand =
+    only-by (InList t) (λ r earlier v c. (n : ℕ) → InList t n → WinsBy (among (t .tolerance * 2 ^ r) (t .list)) earlier v c n) (byTerms t) (terms-read t)
+    (λ r. terms.only (atLevel r t) g) R h w f A cs long (λ n l. every-at (oneOf (t .list)) cs 0 stand n (omega arith))

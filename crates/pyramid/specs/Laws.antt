@@ -9,14 +9,15 @@ use lib.Signed.{_≤ℤ_, _<ℤ_}
 use lib.ListN.{length, getD}
 use Rattle.integers.specs.Sum.{sq, total}
 use Rattle.block.specs.Block.{forward}
-use Rattle.terms.specs.Terms.{Terms, within}
+use Rattle.integers.specs.Lists.{every, oneOf}
+use Rattle.terms.specs.Terms.{Terms, within, allNumbers, isList}
 use Rattle.pyramid.specs.Plane.{Image, Fits, blocks, allBlocks, Numbers, halved, blockOf, wordAt, after, bandsOf, analyse, numerators, listed, covers}
 use Rattle.pyramid.specs.Places.{Place, noPlace, planePlaces, tetroletPlaces, blockPlaces, at, sumOver}
 use Rattle.pyramid.specs.Slices.{pictureOf, coversOf, planeOf, coversBy, planeBy, samplesOf, nearest}
 use Rattle.pyramid.specs.Ranges.{inRange, InRange}
 use Rattle.pyramid.specs.Sides.{isSides, isDepth, Side}
 use Rattle.pyramid.specs.Least.{Least}
-use Rattle.pyramid.specs.Near.{Near}
+use Rattle.pyramid.specs.Near.{Near, NearEvery}
 use Rattle.pyramid.specs.Settled.{Settled, SettledBy}
 
 -- One level of an h by w image, with R levels after it. Document 01: "low upper left, W1 upper right, W2 lower left, W3 lower right"; "Label s goes to row s
@@ -77,16 +78,19 @@ pub record SizeLaws (h w : ℕ) : Type 0 where
   -- what passes them is whole blocks at each level
   pub whole : (R : ℕ) → T (isSides h w) → T (isDepth R h w) → Fits R h w
 
--- Document 02, wish 6: decomposing R levels of the picture s on terms t.
+-- Document 02, wishes 6 and 7: decomposing R levels of the picture s on terms t whose list is not refused.
 pub record ChosenLaws (t : Terms) (R h w : ℕ) (s : List ℕ) : Type 0 where
   -- a covering is chosen for each block, and it is a number of one
   pub lengths : length (coversBy t R h w s) ≡ allBlocks R h w
   pub numbers : Numbers (allBlocks R h w) (listed (coversBy t R h w s))
-  -- it costs at most t times 2^r more than every other cutting at level r
-  pub near : Near t 0 R h w (listed (coversBy t R h w s)) (pictureOf h s)
-  -- the most frequent of all listed before wins, then the lowest number; and no other list of coverings is so settled
+  -- it is in the list
+  pub stand : T (every (oneOf (t .list)) (coversBy t R h w s))
+  -- it costs at most t times 2^r more than every other one in the list at level r; with all coverings listed, than every cutting there is
+  pub near : Near t R h w (coversBy t R h w s) (pictureOf h s)
+  pub all : t .list ≡ allNumbers → NearEvery t R h w (coversBy t R h w s) (pictureOf h s)
+  -- of those that compete the one chosen most often in all earlier blocks wins, then the lowest number; and no other coverings out of the list are so settled
   pub settled : SettledBy t R h w (coversBy t R h w s) (pictureOf h s)
-  pub only : (cs : List ℕ) → length cs ≡ allBlocks R h w → Numbers (allBlocks R h w) (listed cs) → SettledBy t R h w cs (pictureOf h s) → cs ≡ coversBy t R h w s
+  pub only : (cs : List ℕ) → length cs ≡ allBlocks R h w → T (every (oneOf (t .list)) cs) → SettledBy t R h w cs (pictureOf h s) → cs ≡ coversBy t R h w s
   -- restoring the plane gives the picture back
   pub exactly : length s ≡ w * h → ((k : ℕ) → k < w * h → getD s k 0 ≤ 4095) → samplesOf R h w (coversBy t R h w s) (planeBy t R h w s) ≡ s
 
@@ -105,7 +109,7 @@ pub record Laws : Type 0 where
   -- restoring the plane that decomposing gives gives the picture back
   pub exactly : (R h w : ℕ) → Fits R h w → (s : List ℕ) → length s ≡ w * h → ((k : ℕ) → k < w * h → getD s k 0 ≤ 4095) → samplesOf R h w (coversOf R h w s) (planeOf R h w s) ≡ s
   -- on terms, and "With t = 0 everything is as without it"
-  pub onTerms : (t : Terms) (R h w : ℕ) → Fits R h w → (s : List ℕ) → ChosenLaws t R h w s
+  pub onTerms : (t : Terms) → T (isList (t .list)) → (R h w : ℕ) → Fits R h w → (s : List ℕ) → ChosenLaws t R h w s
   pub without : (R h w : ℕ) (s : List ℕ) → (coversBy (within 0) R h w s ≡ coversOf R h w s) × (planeBy (within 0) R h w s ≡ planeOf R h w s)
   -- rounding is to nearest, halves upward: of n = nearest R y, 2 y + 4 ^ R is at least 2 n 4 ^ R and below 2 (n + 1) 4 ^ R
   pub rounded : (R : ℕ) (y : ℤ) → let m = 2 * 4 ^ R in let n = nearest R y in

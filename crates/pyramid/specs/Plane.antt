@@ -132,6 +132,7 @@ coversAfter rule d before (suc R) h w A =
 abbrev pub covers : ℕ → ℕ → ℕ → Image → List ℕ
 covers R h w A = coversAfter (λ r. pick) 0 [] R h w A
 
--- Document 02, wish 6: the coverings of a picture on terms, "whose cost at level r is at most the least plus t times 2^r": each level has its own rule.
+-- Document 02, wishes 6 and 7: the coverings of a picture on terms, "whose cost at level r is at most the least plus t times 2^r", where "the least cost is
+-- the least in the list": each level has its own rule.
 abbrev pub coversOn : Terms → ℕ → ℕ → ℕ → Image → List ℕ
 coversOn t R h w A = coversAfter (λ r. pickTerms (atLevel r t)) 0 [] R h w A

@@ -30,7 +30,7 @@ coversOf R h w s = covers R h w (pictureOf h s)
 abbrev pub planeOf : ℕ → ℕ → ℕ → List ℕ → List ℤ
 planeOf R h w s = planeWith R h w (coversOf R h w s) s
 
--- The same on terms (document 02, wish 6).
+-- The same on terms (document 02, wishes 6 and 7).
 abbrev pub coversBy : Terms → ℕ → ℕ → ℕ → List ℕ → List ℕ
 coversBy t R h w s = coversOn t R h w (pictureOf h s)
 

@@ -7,7 +7,7 @@ use lib.Dec.{T, ltb}
 use lib.IntN.{pos}
 use lib.ListN.{length, getD}
 use Rattle.integers.specs.Sum.{Σℕ, only}
-use Rattle.terms.specs.Terms.{Terms, within}
+use Rattle.terms.specs.Terms.{Terms, within, isList}
 use Rattle.pyramid.specs.Plane.{Image, Fits, halved}
 use Rattle.pyramid.specs.Places.{tetroletPlaces, noPlace, at}
 use Rattle.pyramid.specs.Slices.{imageOf, planeWith, coversOf, planeOf, coversBy, planeBy}
@@ -38,6 +38,6 @@ pub record Laws : Type 0 where
   pub keepAccepts : (R h w : ℕ) → Fits (suc R) h w → (cs s : List ℕ) → ((k : ℕ) → k < w * h → getD s k 0 ≤ 4095) → T (inRange (suc R) h w (imageOf h (planeWith (suc R) h w cs s)))
   pub restoreAccepts : (R h w : ℕ) → Fits (suc R) h w → (cs s : List ℕ) → ((k : ℕ) → k < w * h → getD s k 0 ≤ 4095) → (K : ℕ) → T (inRange (suc R) h w (imageOf h (keptOf (suc R) h w K (planeWith (suc R) h w cs s))))
   -- the third demand, on whatever terms
-  pub demand : (t : Terms) (R h w K : ℕ) → Fits R h w → (s : List ℕ) → Demand t R h w K s (coversBy t R h w s) (planeBy t R h w s) (keptOf R h w K (planeBy t R h w s))
-  -- and without them: tolerance 0
+  pub demand : (t : Terms) → T (isList (t .list)) → (R h w K : ℕ) → Fits R h w → (s : List ℕ) → Demand t R h w K s (coversBy t R h w s) (planeBy t R h w s) (keptOf R h w K (planeBy t R h w s))
+  -- and without them: tolerance 0, all coverings listed
   pub demandWithout : (R h w K : ℕ) → Fits R h w → (s : List ℕ) → Demand (within 0) R h w K s (coversOf R h w s) (planeOf R h w s) (keptOf R h w K (planeOf R h w s))

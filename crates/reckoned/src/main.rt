@@ -1,13 +1,14 @@
 // Runs the entries beside the plain second implementation, which shares nothing with them: first the examples of document 01's "Reckoned by hand" that
-// are not in the proved table, a usage list, a tie, a test image and tolerances, then both sides of every limit of its table of refusals, by number. A line has
-// what was asked, for each entry its name, the number of its answer and that of the second implementation, 0 where the call is accepted, and whether the two
-// agree in all that they answer and leave in the slices. What is proved says that code and definition have the same limits; the stored output of this program
-// says which. Texts that are read are the part of `reckoned_text`.
+// are not in the proved table, a usage list, a tie, a test image, tolerances and lists of coverings, then both sides of every limit of its table of refusals,
+// by number. A line has what was asked, for each entry its name, the number of its answer and that of the second implementation, 0 where the call is accepted,
+// and whether the two agree in all that they answer and leave in the slices. What is proved says that code and definition have the same limits; the stored
+// output of this program says which. Texts that are read are the part of `reckoned_text`.
 use pairs::answers::heading;
 
 mod frames;
 mod generated;
 mod large;
+mod listed;
 mod lists;
 mod long;
 mod pictures;
@@ -30,6 +31,7 @@ fn examples(words: &[u8]) {
     pictures::ties(words);
     generated::first();
     tolerances::steps(words);
+    listed::steps(words);
 }
 
 fn frame(words: &[u8]) {
@@ -86,6 +88,11 @@ fn rooms() {
 fn limits(words: &[u8]) {
     heading(b"13 tolerance");
     tolerances::limits(words);
+    heading(b"14 list");
+    listed::limits(words);
+    listed::decomposing(words);
+    listed::restoring(words);
+    listed::outside(words);
 }
 
 fn main() {

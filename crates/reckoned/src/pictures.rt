@@ -1,6 +1,8 @@
-// Decomposing a picture, with a tolerance or without one, by the coder and by the plain second implementation: a flat one, and one of 8 by 8 whose second
-// level has a tie.
+// Decomposing a picture, without a tolerance, with one, and with one and a list, by the coder and by the plain second implementation: a flat one, and one of
+// 8 by 8 whose second level has a tie.
 use cases::answers::outcome;
+use cases::lists::fill_list;
+use cases::safe::put_byte;
 use cases::safe::put_sample;
 use pairs::answers::Pair;
 use pairs::answers::end;
@@ -24,40 +26,126 @@ pub struct Picture {
     pub picture: [u16; 65],
 }
 
-fn by_coder(k: Picture) -> Left {
-    let samples = k.picture;
-    let mut plane = [7i64; 65];
-    let mut coverings = [9u8; 6];
-    let mut scratch = [-3i64; 65];
-    let a = coder::decompose(
-        k.height,
-        k.width,
-        k.levels,
-        front::samples(&samples, k.samples),
-        front::values_mut(&mut plane, k.plane),
-        front::bytes_mut(&mut coverings, k.coverings),
-        front::values_mut(&mut scratch, k.scratch),
-    );
-    Left {
-        answer: numbered(refusals::code(a)),
-        values: plane,
-        samples: samples,
-        coverings: coverings,
-        scratch: scratch,
+// A list of so many coverings: these two, then 3, 4, 5 and so on.
+pub struct List {
+    pub length: usize,
+    pub first: u8,
+    pub second: u8,
+}
+
+pub fn numbers(l: List) -> [u8; 300] {
+    let mut list = [0u8; 300];
+    fill_list(3, 0, &mut list);
+    put_byte(&mut list, 0, l.first as usize);
+    put_byte(&mut list, 1, l.second as usize);
+    list
+}
+
+// Who decomposes: the coder or the second implementation, without a tolerance, with one, or with one and a list.
+pub enum Way {
+    Coder,
+    CoderWithin(u64),
+    CoderListed(u64),
+    Plain,
+    PlainWithin(u64),
+    PlainListed(u64),
+}
+
+// A way without a list does not read the one that it is lent.
+fn decompose_by(
+    words: &[u8],
+    way: Way,
+    height: usize,
+    width: usize,
+    levels: usize,
+    samples: &[u16],
+    list: &[u8],
+    plane: &mut [i64],
+    coverings: &mut [u8],
+    scratch: &mut [i64],
+) -> u32 {
+    match way {
+        Way::Coder => refusals::code(coder::decompose(
+            height,
+            width,
+            levels,
+            samples,
+            plane,
+            coverings,
+            scratch,
+        )),
+        Way::CoderWithin(tolerance) => refusals::code(coder::decompose_within(
+            height,
+            width,
+            levels,
+            tolerance,
+            samples,
+            plane,
+            coverings,
+            scratch,
+        )),
+        Way::CoderListed(tolerance) => refusals::code(listing::decompose_listed(
+            height,
+            width,
+            levels,
+            tolerance,
+            samples,
+            list,
+            plane,
+            coverings,
+            scratch,
+        )),
+        Way::Plain => plain::pyramid::decompose(
+            words,
+            height,
+            width,
+            levels,
+            samples,
+            plane,
+            coverings,
+            scratch,
+        ),
+        Way::PlainWithin(tolerance) => plain::pyramid::decompose_within(
+            words,
+            height,
+            width,
+            levels,
+            tolerance,
+            samples,
+            plane,
+            coverings,
+            scratch,
+        ),
+        Way::PlainListed(tolerance) => plain::pyramid::decompose_listed(
+            words,
+            height,
+            width,
+            levels,
+            tolerance,
+            samples,
+            list,
+            plane,
+            coverings,
+            scratch,
+        ),
     }
 }
 
-fn by_plain(words: &[u8], k: Picture) -> Left {
+// What a call leaves.
+pub fn left_by(words: &[u8], k: Picture, way: Way, l: List) -> Left {
     let samples = k.picture;
+    let list = numbers(l);
     let mut plane = [7i64; 65];
     let mut coverings = [9u8; 6];
     let mut scratch = [-3i64; 65];
-    let n = plain::pyramid::decompose(
+    let n = decompose_by(
         words,
+        way,
         k.height,
         k.width,
         k.levels,
         front::samples(&samples, k.samples),
+        front::bytes(&list, l.length),
         front::values_mut(&mut plane, k.plane),
         front::bytes_mut(&mut coverings, k.coverings),
         front::values_mut(&mut scratch, k.scratch),
@@ -69,65 +157,29 @@ fn by_plain(words: &[u8], k: Picture) -> Left {
         coverings: coverings,
         scratch: scratch,
     }
+}
+
+// The same for a way without a list.
+pub fn unlisted(words: &[u8], k: Picture, way: Way) -> Left {
+    let none = List {
+        length: 0,
+        first: 0,
+        second: 0,
+    };
+    left_by(words, k, way, none)
 }
 
 pub fn decompose(words: &[u8], k: Picture) -> Pair {
-    pair(by_coder(k), by_plain(words, k))
-}
-
-pub fn within_by_coder(k: Picture, tolerance: u64) -> Left {
-    let samples = k.picture;
-    let mut plane = [7i64; 65];
-    let mut coverings = [9u8; 6];
-    let mut scratch = [-3i64; 65];
-    let a = coder::decompose_within(
-        k.height,
-        k.width,
-        k.levels,
-        tolerance,
-        front::samples(&samples, k.samples),
-        front::values_mut(&mut plane, k.plane),
-        front::bytes_mut(&mut coverings, k.coverings),
-        front::values_mut(&mut scratch, k.scratch),
-    );
-    Left {
-        answer: numbered(refusals::code(a)),
-        values: plane,
-        samples: samples,
-        coverings: coverings,
-        scratch: scratch,
-    }
-}
-
-pub fn within_by_plain(words: &[u8], k: Picture, tolerance: u64) -> Left {
-    let samples = k.picture;
-    let mut plane = [7i64; 65];
-    let mut coverings = [9u8; 6];
-    let mut scratch = [-3i64; 65];
-    let n = plain::pyramid::decompose_within(
-        words,
-        k.height,
-        k.width,
-        k.levels,
-        tolerance,
-        front::samples(&samples, k.samples),
-        front::values_mut(&mut plane, k.plane),
-        front::bytes_mut(&mut coverings, k.coverings),
-        front::values_mut(&mut scratch, k.scratch),
-    );
-    Left {
-        answer: numbered(n),
-        values: plane,
-        samples: samples,
-        coverings: coverings,
-        scratch: scratch,
-    }
+    pair(
+        unlisted(words, k, Way::Coder),
+        unlisted(words, k, Way::Plain),
+    )
 }
 
 pub fn decompose_within(words: &[u8], k: Picture, tolerance: u64) -> Pair {
     pair(
-        within_by_coder(k, tolerance),
-        within_by_plain(words, k, tolerance),
+        unlisted(words, k, Way::CoderWithin(tolerance)),
+        unlisted(words, k, Way::PlainWithin(tolerance)),
     )
 }
 
@@ -180,7 +232,7 @@ pub fn ties(words: &[u8]) {
         picture: picture,
     };
     tell_one(b"decompose", decompose(words, k));
-    let left = by_coder(k);
+    let left = unlisted(words, k, Way::Coder);
     let mut buffer = [b'?'; 64];
     let list = outcome(sheet::usage(front::bytes(&left.coverings, 5), &mut buffer));
     io::write_all(1, front::bytes(&buffer, list.a));

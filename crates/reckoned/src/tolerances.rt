@@ -1,8 +1,8 @@
 // Decomposing with a tolerance, by the coder and by the plain second implementation: what it lets a block take at each level, and its limit.
 use crate::pictures::Picture;
+use crate::pictures::Way;
 use crate::pictures::decompose_within;
-use crate::pictures::within_by_coder;
-use crate::pictures::within_by_plain;
+use crate::pictures::unlisted;
 use cases::safe::byte_at;
 use cases::safe::minus;
 use cases::safe::over;
@@ -31,8 +31,8 @@ fn last(words: &[u8], k: Picture, tolerance: u64) {
     put(b"width ", k.width as u64);
     put(b"levels ", k.levels as u64);
     put(b"tolerance ", tolerance);
-    let x = within_by_coder(k, tolerance);
-    let y = within_by_plain(words, k, tolerance);
+    let x = unlisted(words, k, Way::CoderWithin(tolerance));
+    let y = unlisted(words, k, Way::PlainWithin(tolerance));
     let agreed = tell(true, b"within", pair(x, y));
     let covering = byte_at(&x.coverings, minus(k.coverings, 1));
     put(b"last covering ", covering as u64);
@@ -40,10 +40,10 @@ fn last(words: &[u8], k: Picture, tolerance: u64) {
 }
 
 // Document 01's block with rows 0, 10, 20, 30. Covering 117 costs 0, 70 costs 40, 2 costs 220, 1 costs 240; a tolerance counts twice.
-fn block(words: &[u8], tolerance: u64) {
+pub fn stairs() -> Picture {
     let mut picture = [0u16; 65];
     rows(4, 1, 10, &mut picture);
-    let k = Picture {
+    Picture {
         height: 4,
         width: 4,
         levels: 1,
@@ -52,8 +52,11 @@ fn block(words: &[u8], tolerance: u64) {
         coverings: 1,
         scratch: 16,
         picture: picture,
-    };
-    last(words, k, tolerance);
+    }
+}
+
+fn block(words: &[u8], tolerance: u64) {
+    last(words, stairs(), tolerance);
 }
 
 // The left block is the same, and takes covering 117 below a tolerance of 20. The right one is 0, but 9 in its upper left square: covering 48, which has that square,
@@ -80,10 +83,10 @@ fn strip(words: &[u8], tolerance: u64) {
 
 // The upper half is 0 and the lower 9. The blocks of level 1 are flat and take covering 1. At level 2, where a tolerance counts four times, covering 50 costs 0,
 // 3 costs 144 and 1 costs 288.
-fn halves(words: &[u8], tolerance: u64) {
+pub fn half() -> Picture {
     let mut picture = [0u16; 65];
     rows(8, 4, 9, &mut picture);
-    let k = Picture {
+    Picture {
         height: 8,
         width: 8,
         levels: 2,
@@ -92,8 +95,11 @@ fn halves(words: &[u8], tolerance: u64) {
         coverings: 5,
         scratch: 64,
         picture: picture,
-    };
-    last(words, k, tolerance);
+    }
+}
+
+fn halves(words: &[u8], tolerance: u64) {
+    last(words, half(), tolerance);
 }
 
 // The last tolerance with which a covering is too dear, and the first with which it is not.

@@ -2,7 +2,7 @@
 use mathlib.Core.Bool.{Bool, true, false}
 use Prim.Native.Nat.{ℕ, zero, suc}
 use Rattle.refusals.specs.declared.Refusal.{Refusal}
-use Rattle.refusals.specs.declared.Refusal.the-variants.{Side, Depth, Frame, Sample, Covering, Coefficient, Quota, Threshold, Text, Buffer, Sequence, Bench, Tolerance}
+use Rattle.refusals.specs.declared.Refusal.the-variants.{Side, Depth, Frame, Sample, Covering, Coefficient, Quota, Threshold, Text, Buffer, Sequence, Bench, Tolerance, Listing}
 use Rattle.refusals.specs.declared.Answer.{Answer}
 use Rattle.refusals.specs.declared.Answer.the-variants.{Done, Refused}
 use Rattle.refusals.specs.declared.Counted.{Counted}
@@ -23,6 +23,7 @@ numberOf Buffer = 10
 numberOf Sequence = 11
 numberOf Bench = 12
 numberOf Tolerance = 13
+numberOf Listing = 14
 
 -- The number of an answer: 0 where the call is accepted.
 abbrev pub answerOf : Answer → ℕ

@@ -18,6 +18,7 @@ pub enum Refusal {
     Sequence, // 11, sequence
     Bench, // 12, bench
     Tolerance, // 13, tolerance
+    Listing, // 14, list
 }
 
 // The answer of an entry that gives nothing but what it leaves in the slices.
@@ -50,6 +51,7 @@ pub fn number(r: Refusal) -> u8
         Refusal::Sequence => 11,
         Refusal::Bench => 12,
         Refusal::Tolerance => 13,
+        Refusal::Listing => 14,
     }
 }
 

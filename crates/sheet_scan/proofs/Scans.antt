@@ -10,7 +10,7 @@ use lib.Dec.{eqb, leb}
 use lib.IntN.{ℤ, pos}
 use lib.ListN.{getD, length}
 use Rattle.integers.specs.Lists.{every}
-use Rattle.integers.proofs.Tests.{both-true}
+use Rattle.integers.proofs.Tests.{both-true, and-false}
 use Rattle.coverings.specs.Entry.{isNumber}
 use Rattle.text.specs.Lines.{cellAt}
 use Rattle.pyramid.specs.Plane.{Image}
@@ -114,10 +114,6 @@ and-assoc false b c = refl
 and-true : (a : Bool) → (a && true) ≡ a
 and-true true = refl
 and-true false = refl
-
-and-false : (a : Bool) → (a && false) ≡ false
-and-false true = refl
-and-false false = refl
 
 -- a pass along the places: what was found so far, and what is left
 some-again : (p : Place) (t ps : List Place) (rs rs′ : List (List ℤ)) (a z c : Bool) → ps ≡ p ∷ t → rs′ ≡ linesPast p rs → c ≡ (a && not z) → z ≡ zeroHere p rs

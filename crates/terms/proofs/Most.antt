@@ -1,7 +1,7 @@
 -- The least over a list, and the first of the greatest: what they are, over bare lists and functions. Assumes nothing.
-use mathlib.Core.Path.{_≡_, refl, subst⁻¹}
+use mathlib.Core.Path.{_≡_, refl, ap, subst, subst⁻¹}
 use mathlib.Core.Logic.{_⊎_, inl, inr}
-use mathlib.Core.Bool.{Bool, true, false, cond, _&&_}
+use mathlib.Core.Bool.{Bool, true, false, cond, _||_}
 use mathlib.Core.List.{List, [], _∷_}
 use Prim.Native.Nat.{ℕ, _+_, _≤_, _<_}
 use native.Mathlib.Omega.{arith}
@@ -9,12 +9,17 @@ use native.Mathlib.Nat.{le-refl, le-trans}
 use borrow.Author.Tests.{ltb-true, ltb-false}
 use lib.Dec.{T, eqb, eqb→eq, eqb-refl, ltb, ltb→lt, lt→ltb, leb, leb→le, le→leb}
 use lib.ListN.{length}
+use Rattle.integers.specs.Lists.{oneOf}
 use Rattle.integers.proofs.Tests.{both-left, both-right, both, either, or-left, or-right}
 use Rattle.coverings.specs.Block.{filter, withIf}
 use Rattle.coverings.proofs.Lists.{mem, filter-in, in-filter}
-use Rattle.terms.specs.Terms.{leastFrom, leastOver, mostFrom, firstMost}
+use Rattle.terms.specs.Terms.{risesFrom, leastFrom, leastOver, mostFrom, firstMost}
 
 -- ---- membership
+pub oneOf-mem : (l : List ℕ) (n : ℕ) → oneOf l n ≡ mem n l
+oneOf-mem [] n = refl
+oneOf-mem (k ∷ l) n = ap (λ (b : Bool). eqb n k || b) (oneOf-mem l n)
+
 in-cons : (n x : ℕ) (l : List ℕ) → T (mem n (x ∷ l)) → (n ≡ x) ⊎ T (mem n l)
 in-cons n x l t = go (either (eqb n x) (mem n l) t)
   where
@@ -78,12 +83,6 @@ least-in f (k ∷ l) h = go (least-one f (f k) l)
     go (inr e) = (e .0, there (e .0) k l (e .1), e .2)
 
 -- ---- rising lists
-
--- each number is over the one before it; n is the one before the first
-abbrev pub risesFrom : ℕ → List ℕ → Bool
-risesFrom n [] = true
-risesFrom n (m ∷ l) = ltb n m && risesFrom m l
-
 rises-lower : (a b : ℕ) (l : List ℕ) → a ≤ b → T (risesFrom b l) → T (risesFrom a l)
 rises-lower a b [] h t = tt
 rises-lower a b (n ∷ l) h t =

@@ -4,7 +4,7 @@ use mathlib.Core.List.{List, [], _∷_}
 use Prim.Native.Nat.{ℕ, _*_}
 use lib.IntN.{ℤ, pos}
 use Rattle.coverings.specs.Block.{row}
-use Rattle.terms.specs.Terms.{within, atLevel, pickTerms}
+use Rattle.terms.specs.Terms.{among, within, atLevel, pickTerms}
 
 abbrev pub rowsBlock : ℕ → ℤ
 rowsBlock a = pos (10 * row a)
@@ -25,7 +25,14 @@ choices =
     pickTerms (atLevel 1 (within 20)) [] rowsBlock ∷
     pickTerms (atLevel 3 (within 4)) [] rowsBlock ∷
     pickTerms (atLevel 3 (within 5)) [] rowsBlock ∷
+    -- in a list the tolerance counts from the least that is listed
+    pickTerms (among 0 (2 ∷ 3 ∷ [])) [] rowsBlock ∷
+    pickTerms (among 59 (2 ∷ 3 ∷ [])) [] rowsBlock ∷
+    pickTerms (among 60 (2 ∷ 3 ∷ [])) [] rowsBlock ∷
+    pickTerms (among 60 (2 ∷ 3 ∷ [])) (70 ∷ 3 ∷ 70 ∷ []) rowsBlock ∷
+    pickTerms (atLevel 2 (among 14 (2 ∷ 3 ∷ []))) [] rowsBlock ∷
+    pickTerms (atLevel 2 (among 15 (2 ∷ 3 ∷ []))) [] rowsBlock ∷
     []
 
 abbrev pub reckoned : List ℕ
-reckoned = 117 ∷ 117 ∷ 70 ∷ 2 ∷ 1 ∷ 70 ∷ 117 ∷ 117 ∷ 70 ∷ 117 ∷ 70 ∷ []
+reckoned = 117 ∷ 117 ∷ 70 ∷ 2 ∷ 1 ∷ 70 ∷ 117 ∷ 117 ∷ 70 ∷ 117 ∷ 70 ∷ 3 ∷ 3 ∷ 2 ∷ 3 ∷ 3 ∷ 2 ∷ []

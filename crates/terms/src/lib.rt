@@ -1,5 +1,6 @@
-// The terms of a choice: a tolerance, within which a covering may cost more than the least. This crate has definitions and laws only; the code is in
-// `choosing`. The definitions are in specs/Terms.antt, and their laws, `TermsLaws` of specs/Laws.antt, are proved in proofs/All.antt.
+// The terms of a choice: a tolerance, within which a covering may cost more than the least, and a list of the coverings that may be chosen. This crate has
+// definitions and laws only; the code is in `choosing`. The definitions are in specs/Terms.antt, and their laws, `TermsLaws` of specs/Laws.antt, are proved
+// in proofs/All.antt.
 ghost use mathlib.Core.Path.{_≡_};
 ghost use Rattle.terms.specs.Laws.{TermsLaws};
 ghost use Rattle.terms.specs.Reckoned.{choices, reckoned};

@@ -1,7 +1,8 @@
 // Compares the proved coder with the plain second implementation, which shares nothing with it, on many generated pictures and planes, and the test images
 // of both. A line for each group: its name, how many cases, how many of them both accept, how many of each are strips, whose height is not their width,
 // and whether the two agree everywhere, in the answer and in all that stands in the slices after. `within` decomposes with a tolerance; `within 0` has the
-// coder with tolerance 0 beside the coder without one. Texts and words are compared by `vectors_text`.
+// coder with tolerance 0 beside the coder without one. `listed` and `restore listed` have a list of coverings; `listed 117` has the coder with all 117 listed
+// beside the coder without a list. Texts and words are compared by `vectors_text`.
 mod generated;
 mod marks;
 mod pictures;
@@ -14,7 +15,10 @@ fn tell_all(words: &[u8]) {
     tell(b"decompose", pictures::group(words));
     tell(b"within", pictures::within_group(words));
     tell(b"within 0", pictures::zero_group(words));
+    tell(b"listed", pictures::listed_group(words));
+    tell(b"listed 117", pictures::full_group(words));
     tell(b"restore", planes::group(words));
+    tell(b"restore listed", planes::listed_group(words));
     tell(b"keep", marks::keep_group());
     tell(b"threshold", marks::threshold_group());
     tell(b"test image", generated::group());

@@ -1,26 +1,32 @@
-// Pictures, decomposed without a tolerance and with one, by the coder and by the plain second implementation.
+// Pictures, decomposed without a tolerance, with one, and with a tolerance and a list, by the coder and by the plain second implementation.
 use cases::inputs::Case;
 use cases::inputs::case_at;
 use cases::inputs::fill_picture;
 use cases::inputs::smaller;
+use cases::lists::fill_list;
+use cases::lists::lent;
 use cases::tally::Tally;
 use cases::tally::Verdict;
 use cases::tally::same_bytes;
 use cases::tally::same_values;
 
-// Who decomposes: the coder or the second implementation, without a tolerance or with one.
+// Who decomposes: the coder or the second implementation, without a tolerance, with one, or with one and a list.
 enum Way {
     Coder,
     CoderWithin(u64),
+    CoderListed(u64),
     Plain,
     PlainWithin(u64),
+    PlainListed(u64),
 }
 
+// A way without a list does not read the one that it is lent.
 fn decompose(
     words: &[u8],
     k: Case,
     way: Way,
     samples: &[u16],
+    list: &[u8],
     plane: &mut [i64],
     coverings: &mut [u8],
     scratch: &mut [i64],
@@ -41,6 +47,17 @@ fn decompose(
             k.levels,
             tolerance,
             samples,
+            plane,
+            coverings,
+            scratch,
+        )),
+        Way::CoderListed(tolerance) => refusals::code(listing::decompose_listed(
+            k.height,
+            k.width,
+            k.levels,
+            tolerance,
+            samples,
+            list,
             plane,
             coverings,
             scratch,
@@ -66,6 +83,18 @@ fn decompose(
             coverings,
             scratch,
         ),
+        Way::PlainListed(tolerance) => plain::pyramid::decompose_listed(
+            words,
+            k.height,
+            k.width,
+            k.levels,
+            tolerance,
+            samples,
+            list,
+            plane,
+            coverings,
+            scratch,
+        ),
     }
 }
 
@@ -75,6 +104,7 @@ fn decompose_front(
     k: Case,
     way: Way,
     samples: &[u16],
+    list: &[u8],
     plane: &mut [i64],
     coverings: &mut [u8],
     scratch: &mut [i64],
@@ -98,6 +128,7 @@ fn decompose_front(
         k,
         way,
         &samples[..n],
+        list,
         &mut plane[..n],
         &mut coverings[..b],
         &mut scratch[..n],
@@ -105,7 +136,7 @@ fn decompose_front(
 }
 
 // Two ways, on slices that hold other values before.
-fn compare(words: &[u8], k: Case, way: Way, way2: Way, samples: &[u16]) -> Verdict {
+fn compare(words: &[u8], k: Case, way: Way, way2: Way, samples: &[u16], list: &[u8]) -> Verdict {
     let mut plane = [7i64; 1024];
     let mut coverings = [9u8; 512];
     let mut scratch = [-3i64; 1024];
@@ -117,6 +148,7 @@ fn compare(words: &[u8], k: Case, way: Way, way2: Way, samples: &[u16]) -> Verdi
         k,
         way,
         samples,
+        list,
         &mut plane,
         &mut coverings,
         &mut scratch,
@@ -126,6 +158,7 @@ fn compare(words: &[u8], k: Case, way: Way, way2: Way, samples: &[u16]) -> Verdi
         k,
         way2,
         samples,
+        list,
         &mut plane2,
         &mut coverings2,
         &mut scratch2,
@@ -136,7 +169,8 @@ fn compare(words: &[u8], k: Case, way: Way, way2: Way, samples: &[u16]) -> Verdi
     cases::tally::judged(a, b, p && c && s)
 }
 
-fn one_picture(words: &[u8], k: Case, way: Way, way2: Way) -> Verdict {
+// Two ways on the picture of a case, with this list.
+fn two_ways(words: &[u8], k: Case, way: Way, way2: Way, list: &[u8]) -> Verdict {
     if 1024 < k.n {
         return Verdict::Differs;
     }
@@ -145,7 +179,12 @@ fn one_picture(words: &[u8], k: Case, way: Way, way2: Way) -> Verdict {
     }
     let mut samples = [0u16; 1024];
     fill_picture(k, &mut samples);
-    compare(words, k, way, way2, &samples)
+    compare(words, k, way, way2, &samples, list)
+}
+
+// Two ways without a list.
+fn one_picture(words: &[u8], k: Case, way: Way, way2: Way) -> Verdict {
+    two_ways(words, k, way, way2, b"")
 }
 
 // Without a tolerance: every height with every width, levels from none to five, every kind of picture.
@@ -195,6 +234,52 @@ pub fn zero_group(words: &[u8]) -> Tally {
     while c < 15360 {
         let k = case_at(c, 8);
         let v = one_picture(words, k, Way::CoderWithin(0), Way::Coder);
+        t = cases::tally::counted_case(t, k, v);
+        c += 1;
+    }
+    t
+}
+
+// Two ways, each lent a list of this kind, which holds after them what it held before.
+fn one_listed(words: &[u8], k: Case, way: Way, way2: Way, kind: usize) -> Verdict {
+    let mut list = [0u8; 300];
+    fill_list(kind, k.seed, &mut list);
+    let before = list;
+    let v = two_ways(words, k, way, way2, lent(kind, &list));
+    if !same_bytes(&list, &before) {
+        return Verdict::Differs;
+    }
+    v
+}
+
+// The same pictures, each with every kind of list, and with the tolerances in turn.
+pub fn listed_group(words: &[u8]) -> Tally {
+    let mut t = cases::tally::none();
+    let mut c: usize = 0;
+    while c < 36864 {
+        let k = smaller(case_at(c / 12, 8));
+        let some = tolerance(c % 7, k.seed);
+        let v = one_listed(
+            words,
+            k,
+            Way::CoderListed(some),
+            Way::PlainListed(some),
+            c % 12,
+        );
+        t = cases::tally::counted_case(t, k, v);
+        c += 1;
+    }
+    t
+}
+
+// The coder with all 117 listed beside the coder without a list.
+pub fn full_group(words: &[u8]) -> Tally {
+    let mut t = cases::tally::none();
+    let mut c: usize = 0;
+    while c < 21504 {
+        let k = case_at(c / 7, 8);
+        let some = tolerance(c % 7, k.seed);
+        let v = one_listed(words, k, Way::CoderListed(some), Way::CoderWithin(some), 3);
         t = cases::tally::counted_case(t, k, v);
         c += 1;
     }

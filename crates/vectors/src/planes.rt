@@ -1,19 +1,93 @@
-// Planes, restored by the coder and by the plain second implementation: those of the pictures, and planes of any values.
+// Planes, restored without a list and with one, by the coder and by the plain second implementation: those of the pictures, and planes of any values.
 use case_planes::case_at;
 use case_planes::fill;
 use cases::inputs::Case;
+use cases::lists::fill_list;
+use cases::lists::lent;
 use cases::tally::Tally;
 use cases::tally::Verdict;
 use cases::tally::judged;
+use cases::tally::same_bytes;
 use cases::tally::same_samples;
 use cases::tally::same_values;
 
-// Both, into slices that hold the same before.
+// Who restores: the coder or the second implementation, without a list or with one.
+enum Way {
+    Coder,
+    CoderListed,
+    Plain,
+    PlainListed,
+}
+
+// A way without a list does not read the one that it is lent.
+fn restore(
+    words: &[u8],
+    k: Case,
+    way: Way,
+    plane: &[i64],
+    coverings: &[u8],
+    list: &[u8],
+    numerators: &mut [i64],
+    samples: &mut [u16],
+    scratch: &mut [i64],
+) -> u32 {
+    match way {
+        Way::Coder => refusals::code(coder::restore(
+            k.height,
+            k.width,
+            k.levels,
+            plane,
+            coverings,
+            numerators,
+            samples,
+            scratch,
+        )),
+        Way::CoderListed => refusals::code(listing::restore_listed(
+            k.height,
+            k.width,
+            k.levels,
+            plane,
+            coverings,
+            list,
+            numerators,
+            samples,
+            scratch,
+        )),
+        Way::Plain => plain::pyramid::restore(
+            words,
+            k.height,
+            k.width,
+            k.levels,
+            plane,
+            coverings,
+            scratch,
+            numerators,
+            samples,
+        ),
+        Way::PlainListed => plain::pyramid::restore_listed(
+            words,
+            k.height,
+            k.width,
+            k.levels,
+            plane,
+            coverings,
+            list,
+            scratch,
+            numerators,
+            samples,
+        ),
+    }
+}
+
+// Two ways, into slices that hold the same before.
 fn both(
     words: &[u8],
     k: Case,
+    way: Way,
+    way2: Way,
     plane: &[i64],
     coverings: &[u8],
+    list: &[u8],
     numerators: &mut [i64],
     samples: &mut [u16],
     scratch: &mut [i64],
@@ -21,26 +95,27 @@ fn both(
     samples2: &mut [u16],
     scratch2: &mut [i64],
 ) -> Verdict {
-    let a = refusals::code(coder::restore(
-        k.height,
-        k.width,
-        k.levels,
+    let a = restore(
+        words,
+        k,
+        way,
         plane,
         coverings,
+        list,
         numerators,
         samples,
         scratch,
-    ));
-    let b = plain::pyramid::restore(
+    );
+    let b = restore(
         words,
-        k.height,
-        k.width,
-        k.levels,
+        k,
+        way2,
         plane,
         coverings,
-        scratch2,
+        list,
         numerators2,
         samples2,
+        scratch2,
     );
     let n = same_values(numerators, numerators2);
     let p = same_samples(samples, samples2);
@@ -48,8 +123,16 @@ fn both(
     judged(a, b, n && p && s)
 }
 
-// Both, into slices of the plane's length that hold other values before.
-fn compare(words: &[u8], k: Case, plane: &[i64], coverings: &[u8]) -> Verdict {
+// Two ways, into slices of the plane's length that hold other values before.
+fn compare(
+    words: &[u8],
+    k: Case,
+    way: Way,
+    way2: Way,
+    plane: &[i64],
+    coverings: &[u8],
+    list: &[u8],
+) -> Verdict {
     let n = k.n;
     if 1024 < n {
         return Verdict::Differs;
@@ -63,8 +146,11 @@ fn compare(words: &[u8], k: Case, plane: &[i64], coverings: &[u8]) -> Verdict {
     both(
         words,
         k,
+        way,
+        way2,
         plane,
         coverings,
+        list,
         &mut numerators[..n],
         &mut samples[..n],
         &mut scratch[..n],
@@ -74,7 +160,8 @@ fn compare(words: &[u8], k: Case, plane: &[i64], coverings: &[u8]) -> Verdict {
     )
 }
 
-fn one_plane(words: &[u8], k: Case) -> Verdict {
+// Two ways on the plane of a case, with this list.
+fn two_ways(words: &[u8], k: Case, way: Way, way2: Way, list: &[u8]) -> Verdict {
     let n = k.n;
     let b = k.b;
     if 1024 < n {
@@ -86,7 +173,11 @@ fn one_plane(words: &[u8], k: Case) -> Verdict {
     let mut plane = [0i64; 1024];
     let mut coverings = [1u8; 512];
     fill(k, &mut plane, &mut coverings);
-    compare(words, k, &plane[..n], &coverings[..b])
+    compare(words, k, way, way2, &plane[..n], &coverings[..b], list)
+}
+
+fn one_plane(words: &[u8], k: Case) -> Verdict {
+    two_ways(words, k, Way::Coder, Way::Plain, b"")
 }
 
 pub fn group(words: &[u8]) -> Tally {
@@ -95,6 +186,37 @@ pub fn group(words: &[u8]) -> Tally {
     while c < 16128 {
         let k = case_at(c);
         let v = one_plane(words, k);
+        t = cases::tally::counted_case(t, k, v);
+        c += 1;
+    }
+    t
+}
+
+// With a list of this kind, which holds after both what it held before.
+fn one_listed(words: &[u8], k: Case, kind: usize) -> Verdict {
+    let mut list = [0u8; 300];
+    fill_list(kind, k.seed, &mut list);
+    let before = list;
+    let v = two_ways(
+        words,
+        k,
+        Way::CoderListed,
+        Way::PlainListed,
+        lent(kind, &list),
+    );
+    if !same_bytes(&list, &before) {
+        return Verdict::Differs;
+    }
+    v
+}
+
+// The same planes, each with a list, of a kind by its seed. Most of the coverings are in no list but that of all 117.
+pub fn listed_group(words: &[u8]) -> Tally {
+    let mut t = cases::tally::none();
+    let mut c: usize = 0;
+    while c < 16128 {
+        let k = case_at(c);
+        let v = one_listed(words, k, k.seed / 4 % 12);
         t = cases::tally::counted_case(t, k, v);
         c += 1;
     }

@@ -1,86 +1,21 @@
 -- `block_examples::run` is safe and ends. Assumes nothing.
-use Prim.Native.Nat.{_^_}
 use native.Mathlib.Omega.{arith}
 use borrow.Author.Needs.{needs}
-use Rattle.kernel.proofs.Kernel.{forward-within}
+use Rattle.terms.proofs.Good.{good-full}
 use Rattle.block_examples.proofs.run.Statement.{statement}
 use Rattle.block_examples.proofs.run.Tie as tie
 
-placements-requires : tie.Need-placements-requires
-placements-requires c κs = search needs
+every-covering-requires : tie.Need-every-covering-requires
+every-covering-requires c κs = search needs
 
-fours-requires : tie.Need-fours-requires
-fours-requires c κs = search needs
+slice-aggregate-run-listed : tie.Need-slice-aggregate-run-listed
+slice-aggregate-run-listed c = search needs
 
-cells-requires : tie.Need-cells-requires
-cells-requires c κs = search needs
-
-choose-requires : tie.Need-choose-requires
-choose-requires c κs = (c .before .before .before .before .placements .ensures, c .before .before .before .fours .ensures, λ a h. omega (arith, c .before .before .before .before .before .pre .0 a h), omega (arith, c .before .before .before .before .before .pre .1))
-
-slice-aggregate-write-all : tie.Need-slice-aggregate-write-all
-slice-aggregate-write-all c = search needs
-
-write-all-requires : tie.Need-write-all-requires
-write-all-requires c κs = search needs
-
-cast-print-decimal : tie.Need-cast-print-decimal
-cast-print-decimal c = search needs
-
-print-decimal-requires : tie.Need-print-decimal-requires
-print-decimal-requires c κs = search needs
-
-slice-aggregate-write-all-2 : tie.Need-slice-aggregate-write-all-2
-slice-aggregate-write-all-2 c = search needs
-
-write-all-requires-2 : tie.Need-write-all-requires-2
-write-all-requires-2 c κs = search needs
-
-forward-requires : tie.Need-forward-requires
-forward-requires c κs =
-    let o = c .before .before .before .before .before .before in
-    (o .before .before .before .cells .ensures, o .choose .ensures .0, λ a h. omega (arith, o .before .before .before .before .before .before .pre .0 a h))
-
-show-all-requires : tie.Need-show-all-requires
-show-all-requires c κs = search needs
-
-slice-aggregate-write-all-3 : tie.Need-slice-aggregate-write-all-3
-slice-aggregate-write-all-3 c = search needs
-
-write-all-requires-3 : tie.Need-write-all-requires-3
-write-all-requires-3 c κs = search needs
-
-inverse-requires : tie.Need-inverse-requires
-inverse-requires c κs =
-    let f = c .before .before .before .before in
-    let o = f .before .before .before .before .before .before .before in
-    let s = o .before .before .before .before .before .before in
-    (o .before .before .before .cells .ensures, o .choose .ensures .0, λ a h. rw (f .forward .ensures) (forward-within (o .choose .result) (2 ^ 38) (s .args .v) (s .pre .0) a h))
-
-show-all-requires-2 : tie.Need-show-all-requires-2
-show-all-requires-2 c κs = search needs
+run-listed-requires : tie.Need-run-listed-requires
+run-listed-requires c κs = let s = c .before .before in (s .pre .0, omega (arith, s .pre .1), good-full _ (c .before .every-covering .ensures))
 
 returns : tie.Need-returns
 returns c = search needs
 
 pub run-spec : {M : Type 1} → statement M
-run-spec =
-    tie.close
-    (tie.spec
-    placements-requires
-    fours-requires
-    cells-requires
-    choose-requires
-    slice-aggregate-write-all
-    write-all-requires
-    cast-print-decimal
-    print-decimal-requires
-    slice-aggregate-write-all-2
-    write-all-requires-2
-    forward-requires
-    show-all-requires
-    slice-aggregate-write-all-3
-    write-all-requires-3
-    inverse-requires
-    show-all-requires-2
-    returns)
+run-spec = tie.close (tie.spec every-covering-requires slice-aggregate-run-listed run-listed-requires returns)

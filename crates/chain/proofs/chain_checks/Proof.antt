@@ -8,7 +8,7 @@ use Rattle.quota.specs.Quota.{quotaLimit}
 use Rattle.chain.proofs.chain_checks.Statement.{statement}
 use Rattle.chain.proofs.chain_checks.Tie as tie
 
-good : (c : tie.After-enum-told) → let a = c .before .before .before .before .before .before .args in Passed (a .height) (a .width) (a .levels)
+good : (c : tie.After-enum-told) → let a = c .before .before .before .before .before .before .before .args in Passed (a .height) (a .width) (a .levels)
 good c = size-passed _ _ _ (c .enum-told .given .1) (c .before .before .size-checks .ensures)
 
 size-checks-requires : tie.Need-size-checks-requires
@@ -44,31 +44,42 @@ largest-tolerance-requires c κs = tt
 returns-4 : tie.Need-returns-4
 returns-4 c =
     let z = good (c .before .before .before .before .before .before) in
-    rw (z .sided, z .deep, ← c .before .before .before .before .before .count-blocks .ensures .0, c .before .before .before .before .if1 .left, ← c .before .before .before .all-samples .ensures, c .before .before .if2 .left, lt-ltb 4095 (c .before .before .before .before .before .before .before .before .before .before .before .before .args .tolerance) (omega (arith, c .before .largest-tolerance .ensures .0, c .if3 .taken)))
+    rw (z .sided, z .deep, ← c .before .before .before .before .before .count-blocks .ensures .0, c .before .before .before .before .if1 .left, ← c .before .before .before .all-samples .ensures, c .before .before .if2 .left, lt-ltb 4095 (c .before .before .before .before .before .before .before .before .before .before .before .before .before .args .tolerance) (omega (arith, c .before .largest-tolerance .ensures .0, c .if3 .taken)))
 
-cast-most-entries : tie.Need-cast-most-entries
-cast-most-entries c = omega (arith, good (c .before .before .before .before .before .before) .tall)
-
-cast-most-entries-2 : tie.Need-cast-most-entries-2
-cast-most-entries-2 c = omega (arith, good (c .before .before .before .before .before .before) .wide)
-
-cast-most-entries-3 : tie.Need-cast-most-entries-3
-cast-most-entries-3 c = omega (arith, good (c .before .before .before .before .before .before) .few)
-
-most-entries-requires : tie.Need-most-entries-requires
-most-entries-requires c κs = let z = good (c .before .before .before .before .before .before) in (z .sided, z .deep)
+is-list-requires : tie.Need-is-list-requires
+is-list-requires c κs = tt
 
 returns-5 : tie.Need-returns-5
 returns-5 c =
-    let a = c .before .before .before .before .before .before .before .before .before .before .before .before .before .before .args in
+    let a = c .before .before .before .before .before .before .before .before .before .before .before .before .before .before .before .args in
     let z = good (c .before .before .before .before .before .before .before .before) in
-    rw (z .sided, z .deep, ← c .before .before .before .before .before .before .before .count-blocks .ensures .0, c .before .before .before .before .before .before .if1 .left, ← c .before .before .before .before .before .all-samples .ensures, c .before .before .before .before .if2 .left, le-ltb 4095 (a .tolerance) (omega (arith, c .before .before .before .largest-tolerance .ensures .0, c .before .before .if3 .left)), lt-ltb (quotaLimit (a .height) (a .width) (a .levels)) (a .quota) (omega (arith, c .before .most-entries .ensures .0, c .if4 .taken)))
+    rw (z .sided, z .deep, ← c .before .before .before .before .before .before .before .count-blocks .ensures .0, c .before .before .before .before .before .before .if1 .left, ← c .before .before .before .before .before .all-samples .ensures, c .before .before .before .before .if2 .left, le-ltb 4095 (a .tolerance) (omega (arith, c .before .before .before .largest-tolerance .ensures .0, c .before .before .if3 .left)), ← c .before .is-list .ensures, c .if4 .taken)
+
+cast-most-entries : tie.Need-cast-most-entries
+cast-most-entries c = omega (arith, good (c .before .before .before .before .before .before .before .before) .tall)
+
+cast-most-entries-2 : tie.Need-cast-most-entries-2
+cast-most-entries-2 c = omega (arith, good (c .before .before .before .before .before .before .before .before) .wide)
+
+cast-most-entries-3 : tie.Need-cast-most-entries-3
+cast-most-entries-3 c = omega (arith, good (c .before .before .before .before .before .before .before .before) .few)
+
+most-entries-requires : tie.Need-most-entries-requires
+most-entries-requires c κs = let z = good (c .before .before .before .before .before .before .before .before) in (z .sided, z .deep)
 
 returns-6 : tie.Need-returns-6
 returns-6 c =
-    let a = c .before .before .before .before .before .before .before .before .before .before .before .before .before .before .args in
-    let z = good (c .before .before .before .before .before .before .before .before) in
-    rw (z .sided, z .deep, ← c .before .before .before .before .before .before .before .count-blocks .ensures .0, c .before .before .before .before .before .before .if1 .left, ← c .before .before .before .before .before .all-samples .ensures, c .before .before .before .before .if2 .left, le-ltb 4095 (a .tolerance) (omega (arith, c .before .before .before .largest-tolerance .ensures .0, c .before .before .if3 .left)), le-ltb (quotaLimit (a .height) (a .width) (a .levels)) (a .quota) (omega (arith, c .before .most-entries .ensures .0, c .if4 .left)))
+    let l = c .before .before in
+    let a = l .before .before .before .before .before .before .before .before .before .before .before .before .before .before .before .args in
+    let z = good (l .before .before .before .before .before .before .before .before) in
+    rw (z .sided, z .deep, ← l .before .before .before .before .before .before .before .count-blocks .ensures .0, l .before .before .before .before .before .before .if1 .left, ← l .before .before .before .before .before .all-samples .ensures, l .before .before .before .before .if2 .left, le-ltb 4095 (a .tolerance) (omega (arith, l .before .before .before .largest-tolerance .ensures .0, l .before .before .if3 .left)), ← l .before .is-list .ensures, l .if4 .left, lt-ltb (quotaLimit (a .height) (a .width) (a .levels)) (a .quota) (omega (arith, c .before .most-entries .ensures .0, c .if5 .taken)))
+
+returns-7 : tie.Need-returns-7
+returns-7 c =
+    let l = c .before .before in
+    let a = l .before .before .before .before .before .before .before .before .before .before .before .before .before .before .before .args in
+    let z = good (l .before .before .before .before .before .before .before .before) in
+    rw (z .sided, z .deep, ← l .before .before .before .before .before .before .before .count-blocks .ensures .0, l .before .before .before .before .before .before .if1 .left, ← l .before .before .before .before .before .all-samples .ensures, l .before .before .before .before .if2 .left, le-ltb 4095 (a .tolerance) (omega (arith, l .before .before .before .largest-tolerance .ensures .0, l .before .before .if3 .left)), ← l .before .is-list .ensures, l .if4 .left, le-ltb (quotaLimit (a .height) (a .width) (a .levels)) (a .quota) (omega (arith, c .before .most-entries .ensures .0, c .if5 .left)))
 
 pub chain-checks-spec : {M : Type 1} → statement M
 chain-checks-spec =
@@ -85,9 +96,11 @@ chain-checks-spec =
     returns-3
     largest-tolerance-requires
     returns-4
+    is-list-requires
+    returns-5
     cast-most-entries
     cast-most-entries-2
     cast-most-entries-3
     most-entries-requires
-    returns-5
-    returns-6)
+    returns-6
+    returns-7)

@@ -27,13 +27,13 @@ same-length-5 : tie.Need-same-length-5
 same-length-5 c = search needs
 
 returns : tie.Need-returns
-returns c = let g = c .before .found .given in refused _ _ _ _ _ _ _ _ _ _ _ (g .0 .0) (refused-by (g .0 .0) (g .1) (c .before .before .before .chain-checks .ensures))
+returns c = let g = c .before .found .given in refused _ _ _ _ _ _ _ _ _ _ _ _ (g .0 .0) (refused-by (g .0 .0) (g .1) (c .before .before .before .chain-checks .ensures))
 
 enum-told : tie.Need-enum-told
 enum-told c = search needs
 
-decompose-within-requires : tie.Need-decompose-within-requires
-decompose-within-requires c κs = search needs
+decompose-listed-requires : tie.Need-decompose-listed-requires
+decompose-listed-requires c κs = search needs
 
 keep-requires : tie.Need-keep-requires
 keep-requires c κs = search needs
@@ -58,8 +58,8 @@ same-length-10 c = search needs
 
 returns-2 : tie.Need-returns-2
 returns-2 c =
-    chained _ _ _ _ _ _ _ _ _ _ _ (passed-by (c .before .before .before .before .before .before .before .before .before .before .before .before .before .before .before .before .before .before .before .before .before .enum-told .given .1) (c .before .before .before .before .before .before .before .before .before .before .before .before .before .before .before .before .before .before .before .before .before .before .before .chain-checks .ensures))
-    (c .before .before .before .before .before .before .before .before .before .before .before .before .before .before .before .before .before .decompose-within .ensures) (c .before .before .before .before .before .before .before .before .before .before .before .keep .ensures) (c .before .before .before .before .restore .ensures)
+    chained _ _ _ _ _ _ _ _ _ _ _ _ (passed-by (c .before .before .before .before .before .before .before .before .before .before .before .before .before .before .before .before .before .before .before .before .before .enum-told .given .1) (c .before .before .before .before .before .before .before .before .before .before .before .before .before .before .before .before .before .before .before .before .before .before .before .chain-checks .ensures))
+    (c .before .before .before .before .before .before .before .before .before .before .before .before .before .before .before .before .before .decompose-listed .ensures) (c .before .before .before .before .before .before .before .before .before .before .before .keep .ensures) (c .before .before .before .before .restore .ensures)
 
 pub decompose-keep-restore-spec : {M : Type 1} → statement M
 decompose-keep-restore-spec =
@@ -74,7 +74,7 @@ decompose-keep-restore-spec =
     same-length-5
     returns
     enum-told
-    decompose-within-requires
+    decompose-listed-requires
     keep-requires
     restore-requires
     same-length-6

@@ -1,20 +1,20 @@
 -- `coder::within_checks` meets its contract: the checks of decompose, then the tolerance. Assumes nothing.
 use mathlib.Core.Path.{_≡_, sym, ap, _∙_}
 use mathlib.Core.Bool.{Bool}
+use Prim.Native.Nat.{ℕ}
 use native.Mathlib.Omega.{arith}
 use borrow.Author.Needs.{needs}
 use borrow.Author.Tests.{lt-ltb, le-ltb}
 use lib.Dec.{ltb}
 use Rattle.refusals.specs.Refusal.{refuseIf}
-use Rattle.refusals.proofs.After.{refused-by, passed-by}
-use Rattle.coder.specs.Entries.{withinRefusal}
-use Rattle.coder.proofs.Gates.{within-refused, within-passed}
+use Rattle.refusals.proofs.After.{front-still, front-passed}
+use Rattle.coder.specs.Entries.{toleranceRefusal}
 use Rattle.coder.proofs.within_checks.Statement.{statement}
 use Rattle.coder.proofs.within_checks.Tie as tie
 
-passed : (c : tie.After-enum-told) → let a = c .before .before .before .before .before .args in
-    refuseIf (ltb 4095 (a .tolerance)) 13 0 ≡ withinRefusal (a .height) (a .width) (a .levels) (a .tolerance) (a .samples .now) (a .plane .now) (a .coverings .now) (a .scratch .now)
-passed c = let a = c .before .before .before .before .before .args in within-passed (a .height) (a .width) (a .levels) (a .tolerance) (a .samples .now) (a .plane .now) (a .coverings .now) (a .scratch .now) (passed-by (c .enum-told .given .1) (c .before .before .decompose-checks .ensures))
+passed : (c : tie.After-enum-told) (rest : ℕ) → let a = c .before .before .before .before .before .args in
+    toleranceRefusal (a .height) (a .width) (a .levels) (a .tolerance) (a .samples .now) (a .plane .now) (a .coverings .now) (a .scratch .now) rest ≡ refuseIf (ltb 4095 (a .tolerance)) 13 rest
+passed c rest = sym (front-passed _ (c .enum-told .given .1) (c .before .before .decompose-checks .ensures _))
 
 decompose-checks-requires : tie.Need-decompose-checks-requires
 decompose-checks-requires c κs = tt
@@ -23,7 +23,7 @@ enum-known-found : tie.Need-enum-known-found
 enum-known-found c = search needs
 
 returns : tie.Need-returns
-returns c = let g = c .before .found .given in let a = c .before .before .before .before .before .before .args in within-refused (a .height) (a .width) (a .levels) (a .tolerance) (a .samples .now) (a .plane .now) (a .coverings .now) (a .scratch .now) (g .0 .0) (refused-by (g .0 .0) (g .1) (c .before .before .before .decompose-checks .ensures))
+returns c = let g = c .before .found .given in λ rest. front-still (g .0 .0) _ rest (g .1) (c .before .before .before .decompose-checks .ensures _)
 
 enum-told : tie.Need-enum-told
 enum-told c = search needs
@@ -32,10 +32,10 @@ largest-tolerance-requires : tie.Need-largest-tolerance-requires
 largest-tolerance-requires c κs = tt
 
 returns-2 : tie.Need-returns-2
-returns-2 c = ap (λ (o : Bool). refuseIf o 13 0) (sym (lt-ltb 4095 (c .before .before .before .before .before .before .before .args .tolerance) (omega (arith, c .before .largest-tolerance .ensures .0, c .if1 .taken)))) ∙ passed (c .before .before)
+returns-2 c = λ rest. passed (c .before .before) rest ∙ ap (λ (o : Bool). refuseIf o 13 rest) (lt-ltb 4095 (c .before .before .before .before .before .before .before .args .tolerance) (omega (arith, c .before .largest-tolerance .ensures .0, c .if1 .taken)))
 
 returns-3 : tie.Need-returns-3
-returns-3 c = ap (λ (o : Bool). refuseIf o 13 0) (sym (le-ltb 4095 (c .before .before .before .before .before .before .before .args .tolerance) (omega (arith, c .before .largest-tolerance .ensures .0, c .if1 .left)))) ∙ passed (c .before .before)
+returns-3 c = λ rest. passed (c .before .before) rest ∙ ap (λ (o : Bool). refuseIf o 13 rest) (le-ltb 4095 (c .before .before .before .before .before .before .before .args .tolerance) (omega (arith, c .before .largest-tolerance .ensures .0, c .if1 .left)))
 
 pub within-checks-spec : {M : Type 1} → statement M
 within-checks-spec =

@@ -21,7 +21,7 @@ add-most-frequent : tie.Need-add-most-frequent
 add-most-frequent c =
     let u = c .before .before in
     let p = u .before .before .before .before in
-    omega (arith, p .before .before .pre .3, u .put-costs .ensures .1 (costFrom (p .placement-costs .result)) (u .put-costs .ensures .0) .below 1 (omega arith, omega arith), cost-low (p .placement-costs .result) (low p))
+    omega (arith, p .before .before .pre .3, u .put-costs .ensures .1 (costFrom (p .placement-costs .result)) (u .put-costs .ensures .0) .below 1 (omega arith, omega arith), cost-low (p .placement-costs .result) (low p) 1 (omega arith, omega arith))
 
 most-frequent-requires : tie.Need-most-frequent-requires
 most-frequent-requires c κs = search needs

@@ -11,7 +11,7 @@ use Rattle.choosing.proofs.near.put_costs.Statement.{statement}
 use Rattle.choosing.proofs.near.put_costs.Tie as tie
 
 abbrev Inv-loop : tie.InvT-loop
-Inv-loop costs fours all₀ least₀ k₀ all least k = (fours ≡ fourTable) × Low costs × Costed costs all least k
+Inv-loop costs fours all₀ least₀ k₀ all least k = (fours ≡ fourTable) × Low costs × Costed 117 (costFrom costs) all least k
 
 abbrev μ-loop : tie.MeasureT-loop
 μ-loop costs fours all₀ least₀ k₀ all least k = 117 - k
@@ -23,7 +23,7 @@ element-write-all : tie.Need-element-write-all Inv-loop μ-loop
 element-write-all c = search needs
 
 loop-holds : tie.Need-loop-holds Inv-loop μ-loop
-loop-holds c = let b = c .before in (b .pre .0, b .pre .1, costed-first (b .args .costs .now) (b .args .all .now) (c .covering-cost .result) (b .pre .2) (c .covering-cost .ensures .0))
+loop-holds c = let b = c .before in (b .pre .0, b .pre .1, costed-first 117 (costFrom (b .args .costs .now)) (b .args .all .now) (c .covering-cost .result) (omega arith) (b .pre .2) (c .covering-cost .ensures .0))
 
 cast-covering-cost : tie.Need-cast-covering-cost Inv-loop μ-loop
 cast-covering-cost c = search needs
@@ -54,10 +54,10 @@ loop-again c =
     let l = c .before .before .before in
     let inv = l .loop .inv in
     let costs = l .before .before .args .costs .now in
-    (inv .0, inv .1, costed-next costs (l .loop .all) (l .loop .least) (l .loop .k) (c .before .covering-cost2 .result) (c .lesser .result) (inv .2) (omega arith) (c .before .covering-cost2 .ensures .0 ∙ ap (costFrom costs) (add-one (l .loop .k))) (c .lesser .ensures))
+    (inv .0, inv .1, costed-next 117 (costFrom costs) (l .loop .all) (l .loop .least) (l .loop .k) (c .before .covering-cost2 .result) (c .lesser .result) (omega arith) (inv .2) (omega arith) (c .before .covering-cost2 .ensures .0 ∙ ap (costFrom costs) (add-one (l .loop .k))) (c .lesser .ensures))
 
 returns : tie.Need-returns Inv-loop μ-loop
-returns c = let l = c .before in costed-last (l .before .before .args .costs .now) (l .loop .all) (l .loop .least) (l .loop .k) (l .loop .inv .2) (omega arith)
+returns c = let l = c .before in costed-last 117 (costFrom (l .before .before .args .costs .now)) (l .loop .all) (l .loop .least) (l .loop .k) (l .loop .inv .2) (omega arith)
 
 pub put-costs-spec : {M : Type 1} → statement M
 put-costs-spec =

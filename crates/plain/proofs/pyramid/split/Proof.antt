@@ -7,10 +7,10 @@ use Rattle.plain.proofs.pyramid.split.Statement.{statement}
 use Rattle.plain.proofs.pyramid.split.Tie as tie
 
 abbrev Inv-loop : tie.InvT-loop
-Inv-loop words rule extent levels plane₀ scratch₀ coverings₀ level₀ plane scratch coverings level = (length plane ≡ length plane₀) × (length scratch ≡ length scratch₀) × (length coverings ≡ length coverings₀)
+Inv-loop words list rule extent levels plane₀ scratch₀ coverings₀ level₀ plane scratch coverings level = (length plane ≡ length plane₀) × (length scratch ≡ length scratch₀) × (length coverings ≡ length coverings₀)
 
 abbrev μ-loop : tie.MeasureT-loop
-μ-loop words rule extent levels plane₀ scratch₀ coverings₀ level₀ plane scratch coverings level = levels - level
+μ-loop words list rule extent levels plane₀ scratch₀ coverings₀ level₀ plane scratch coverings level = levels - level
 
 loop-holds : tie.Need-loop-holds Inv-loop μ-loop
 loop-holds c = search needs

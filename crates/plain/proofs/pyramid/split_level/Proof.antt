@@ -7,10 +7,10 @@ use Rattle.plain.proofs.pyramid.split_level.Statement.{statement}
 use Rattle.plain.proofs.pyramid.split_level.Tie as tie
 
 abbrev Inv-loop : tie.InvT-loop
-Inv-loop words rule plane₀ scratch coverings₀ extent level blocks n₀ plane coverings n = (length plane ≡ length plane₀) × (length coverings ≡ length coverings₀)
+Inv-loop words list rule plane₀ scratch coverings₀ extent level blocks n₀ plane coverings n = (length plane ≡ length plane₀) × (length coverings ≡ length coverings₀)
 
 abbrev μ-loop : tie.MeasureT-loop
-μ-loop words rule plane₀ scratch coverings₀ extent level blocks n₀ plane coverings n = blocks - n
+μ-loop words list rule plane₀ scratch coverings₀ extent level blocks n₀ plane coverings n = blocks - n
 
 copy-image-requires : tie.Need-copy-image-requires Inv-loop μ-loop
 copy-image-requires c κs = tt

@@ -1,14 +1,18 @@
--- `plain::pyramid::least_cost` is safe and ends. Assumes nothing.
+-- `plain::choice::least_cost` is safe and ends. Assumes nothing.
 use Prim.Native.Nat.{_-_}
 use borrow.Author.Needs.{needs}
-use Rattle.plain.proofs.pyramid.least_cost.Statement.{statement}
-use Rattle.plain.proofs.pyramid.least_cost.Tie as tie
+use lib.ListN.{length}
+use Rattle.plain.proofs.choice.least_cost.Statement.{statement}
+use Rattle.plain.proofs.choice.least_cost.Tie as tie
 
 abbrev Inv-loop : tie.InvT-loop
-Inv-loop words image at least₀ covering₀ least covering = Unit
+Inv-loop words list image at least₀ i₀ least i = Unit
 
 abbrev μ-loop : tie.MeasureT-loop
-μ-loop words image at least₀ covering₀ least covering = 118 - covering
+μ-loop words list image at least₀ i₀ least i = length list - i
+
+byte-at-requires : tie.Need-byte-at-requires Inv-loop μ-loop
+byte-at-requires c κs = tt
 
 cost-requires : tie.Need-cost-requires Inv-loop μ-loop
 cost-requires c κs = tt
@@ -16,11 +20,14 @@ cost-requires c κs = tt
 loop-holds : tie.Need-loop-holds Inv-loop μ-loop
 loop-holds c = search needs
 
+byte-at-requires-2 : tie.Need-byte-at-requires-2 Inv-loop μ-loop
+byte-at-requires-2 c κs = tt
+
 cost-requires-2 : tie.Need-cost-requires-2 Inv-loop μ-loop
 cost-requires-2 c κs = tt
 
-add-covering : tie.Need-add-covering Inv-loop μ-loop
-add-covering c = search needs
+add-i : tie.Need-add-i Inv-loop μ-loop
+add-i c = search needs
 
 loop-less : tie.Need-loop-less Inv-loop μ-loop
 loop-less c = search needs
@@ -37,10 +44,12 @@ least-cost-spec =
     (tie.spec
     Inv-loop
     μ-loop
+    byte-at-requires
     cost-requires
     loop-holds
+    byte-at-requires-2
     cost-requires-2
-    add-covering
+    add-i
     loop-less
     loop-again
     returns)

@@ -1,10 +1,10 @@
--- `vectors::planes::one_plane` is safe and ends. Assumes nothing.
+-- `vectors::planes::two_ways` is safe and ends. Assumes nothing.
 use mathlib.Core.Path.{sym}
 use native.Mathlib.Omega.{arith}
 use borrow.Author.Needs.{needs}
 use lib.Seq.{length-take-le}
-use Rattle.vectors.proofs.planes.one_plane.Statement.{statement}
-use Rattle.vectors.proofs.planes.one_plane.Tie as tie
+use Rattle.vectors.proofs.planes.two_ways.Statement.{statement}
+use Rattle.vectors.proofs.planes.two_ways.Tie as tie
 
 returns : tie.Need-returns
 returns c = search needs
@@ -39,8 +39,8 @@ compare-requires c κs = search needs
 returns-3 : tie.Need-returns-3
 returns-3 c = search needs
 
-pub one-plane-spec : {M : Type 1} → statement M
-one-plane-spec =
+pub two-ways-spec : {M : Type 1} → statement M
+two-ways-spec =
     tie.close
     (tie.spec
     returns

@@ -1,14 +1,18 @@
--- `plain::pyramid::choose` is safe and ends. Assumes nothing.
+-- `plain::choice::choose` is safe and ends. Assumes nothing.
 use Prim.Native.Nat.{_-_}
 use borrow.Author.Needs.{needs}
-use Rattle.plain.proofs.pyramid.choose.Statement.{statement}
-use Rattle.plain.proofs.pyramid.choose.Tie as tie
+use lib.ListN.{length}
+use Rattle.plain.proofs.choice.choose.Statement.{statement}
+use Rattle.plain.proofs.choice.choose.Tie as tie
 
 abbrev Inv-loop : tie.InvT-loop
-Inv-loop words image at coverings before best₀ least₀ most₀ covering₀ best least most covering = Unit
+Inv-loop words list image at coverings before best₀ least₀ most₀ i₀ best least most i = Unit
 
 abbrev μ-loop : tie.MeasureT-loop
-μ-loop words image at coverings before best₀ least₀ most₀ covering₀ best least most covering = 118 - covering
+μ-loop words list image at coverings before best₀ least₀ most₀ i₀ best least most i = length list - i
+
+byte-at-requires : tie.Need-byte-at-requires Inv-loop μ-loop
+byte-at-requires c κs = tt
 
 cost-requires : tie.Need-cost-requires Inv-loop μ-loop
 cost-requires c κs = tt
@@ -19,14 +23,17 @@ times-chosen-requires c κs = tt
 loop-holds : tie.Need-loop-holds Inv-loop μ-loop
 loop-holds c = search needs
 
+byte-at-requires-2 : tie.Need-byte-at-requires-2 Inv-loop μ-loop
+byte-at-requires-2 c κs = tt
+
 cost-requires-2 : tie.Need-cost-requires-2 Inv-loop μ-loop
 cost-requires-2 c κs = tt
 
 times-chosen-requires-2 : tie.Need-times-chosen-requires-2 Inv-loop μ-loop
 times-chosen-requires-2 c κs = tt
 
-add-covering : tie.Need-add-covering Inv-loop μ-loop
-add-covering c = search needs
+add-i : tie.Need-add-i Inv-loop μ-loop
+add-i c = search needs
 
 loop-less : tie.Need-loop-less Inv-loop μ-loop
 loop-less c = search needs
@@ -43,12 +50,14 @@ choose-spec =
     (tie.spec
     Inv-loop
     μ-loop
+    byte-at-requires
     cost-requires
     times-chosen-requires
     loop-holds
+    byte-at-requires-2
     cost-requires-2
     times-chosen-requires-2
-    add-covering
+    add-i
     loop-less
     loop-again
     returns)

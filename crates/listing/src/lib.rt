@@ -1,0 +1,163 @@
+// Listing: the entries decompose with a list of coverings, out of which each block's is chosen, and restore with a list. They ask the checks of the crate
+// `coder` and that of the list, and where none refuses do the work of `analysis` and of `coder::restore`. What they answer and leave is in
+// specs/Entries.antt; what is proved of them together, `ListingLaws` of specs/Claims.antt, is in proofs/Together.antt.
+ghost use mathlib.Core.Path.{_≡_};
+ghost use Rattle.refusals.specs.Refusal.{answerOf};
+ghost use Rattle.terms.specs.Terms.{isList};
+ghost use Rattle.listing.specs.Claims.{ListingLaws};
+ghost use Rattle.listing.specs.Entries.{listedRefusal, DecomposedListed, RestoredListed};
+use refusals::Answer;
+use refusals::Refusal;
+
+// The most coverings of a list. Its contract carries the laws of the two entries, which are so a part of what the check proves.
+pub fn longest_list() -> usize
+    ensures { λ r. ⌜ (r ≡ 117) × ListingLaws ⌝ }
+{
+    117
+}
+
+// Whether a list of coverings is good: not empty, strictly rising, each 1 to 117.
+// Two wrong answers that the contract rules out: true for a list that holds a covering twice; and false for the list of all 117.
+pub fn is_list(list: &[u8]) -> bool
+    ensures { λ r. ⌜ r ≡ isList (now (list .entry)) ⌝ }
+{
+    if list.len() == 0 {
+        return false;
+    }
+    let mut last: u8 = 0;
+    let mut i: usize = 0;
+    while i < list.len() {
+        let n = list[i];
+        if n <= last {
+            return false;
+        }
+        if 117 < n {
+            return false;
+        }
+        last = n;
+        i += 1;
+    }
+    true
+}
+
+// The checks of decompose_listed: those of decompose_within, then the list.
+fn listed_checks(
+    height: usize,
+    width: usize,
+    levels: usize,
+    tolerance: u64,
+    samples: &[u16],
+    list: &[u8],
+    plane: &[i64],
+    coverings: &[u8],
+    scratch: &[i64],
+) -> Answer
+    ensures { λ r. ⌜ answerOf r ≡ listedRefusal height width levels tolerance (now (samples .entry)) (now (list .entry)) (now (plane .entry)) (now (coverings .entry)) (now (scratch .entry)) ⌝ }
+{
+    let found = coder::within_checks(
+        height,
+        width,
+        levels,
+        tolerance,
+        samples,
+        plane,
+        coverings,
+        scratch,
+    );
+    if let Answer::Refused(r) = found {
+        return Answer::Refused(r);
+    }
+    if !is_list(list) {
+        return Answer::Refused(Refusal::Listing);
+    }
+    Answer::Done
+}
+
+// Decomposes a picture with a list of coverings and a tolerance: of the coverings in the list whose cost at level r is at most the least in the list plus the
+// tolerance times 2^r a block takes the most often chosen, then the lowest number. With all 117 in the list it gives what decompose_within gives.
+// Three wrong answers that the contract rules out: a covering that is not in the list; none or 0 for a block that no listed covering fits as well as the best
+// of all; and 14 for a tolerance over 4,095.
+pub fn decompose_listed(
+    height: usize,
+    width: usize,
+    levels: usize,
+    tolerance: u64,
+    samples: &[u16],
+    list: &[u8],
+    plane: &mut [i64],
+    coverings: &mut [u8],
+    scratch: &mut [i64],
+) -> Answer
+    ensures { λ r. ⌜ DecomposedListed height width levels tolerance (now (samples .entry)) (now (list .entry)) (now (plane .entry)) (now (plane .exit)) (now (coverings .entry)) (now (coverings .exit)) (now (scratch .entry)) (now (scratch .exit)) (answerOf r) ⌝ }
+{
+    let found = listed_checks(
+        height,
+        width,
+        levels,
+        tolerance,
+        samples,
+        list,
+        plane,
+        coverings,
+        scratch,
+    );
+    if let Answer::Refused(r) = found {
+        return Answer::Refused(r);
+    }
+    analysis::decompose_all(
+        height,
+        width,
+        levels,
+        samples,
+        plane,
+        coverings,
+        scratch,
+        tolerance,
+        list,
+    );
+    Answer::Done
+}
+
+// Restores a plane by its coverings: numerators, samples, and zeros in the scratch slice, as coder::restore does. Of the list only that it is one is looked
+// at: that it is the one which was used is the caller's word.
+// Two wrong answers that the contract rules out: 5 for a bad list and a covering 0; and 0 for an empty list.
+pub fn restore_listed(
+    height: usize,
+    width: usize,
+    levels: usize,
+    plane: &[i64],
+    coverings: &[u8],
+    list: &[u8],
+    numerators: &mut [i64],
+    samples: &mut [u16],
+    scratch: &mut [i64],
+) -> Answer
+    ensures { λ r. ⌜ RestoredListed height width levels (now (plane .entry)) (now (coverings .entry)) (now (list .entry)) (now (numerators .entry)) (now (numerators .exit)) (now (samples .entry)) (now (samples .exit)) (now (scratch .entry)) (now (scratch .exit)) (answerOf r) ⌝ }
+{
+    let framed = coder::frame_checks(
+        height,
+        width,
+        levels,
+        plane,
+        coverings,
+        numerators,
+        samples,
+        scratch,
+    );
+    if let Answer::Refused(r) = framed {
+        return Answer::Refused(r);
+    }
+    if !is_list(list) {
+        return Answer::Refused(Refusal::Listing);
+    }
+    coder::restore(
+        height,
+        width,
+        levels,
+        plane,
+        coverings,
+        numerators,
+        samples,
+        scratch,
+    )
+}
