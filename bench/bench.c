@@ -75,8 +75,34 @@ static void check(int good, const char *what, size_t height, size_t width, size_
         differ(what, height, width, levels);
 }
 
-/* Whether both give the same, through all entries. */
-static void agree(size_t height, size_t width, size_t levels, int kind)
+/* Whether both join alike: the image as two strips, the left one cut to a quota. The joined strip must restore to the numerators of both, left then
+   right. */
+static void agree_joined(size_t height, size_t width, size_t levels)
+{
+    size_t area = height * width, blocks = tetrolet_blocks(height, width, levels), half = area / 2, part = blocks / 2, left;
+    int64_t *p = scratch[0], *joined = plane[0], *n = numerators[0];
+    uint8_t d[TETROLET_MAX_BLOCKS], *c = coverings[0];
+    uint32_t a = 0, b;
+    for (size_t k = 0; k < 2; k++) {
+        a |= tetrolet_decompose(height, width / 2, levels, image + k * half, half, p + k * half, half, d + k * part, part, scratch[1], half);
+        if (k == 0)
+            a |= tetrolet_keep(height, width / 2, levels, p, half, half / 8, &left);
+        a |= tetrolet_restore(height, width / 2, levels, p + k * half, half, d + k * part, part, n + k * half, half, samples[0], half, scratch[1], half);
+    }
+    check(a == 0, "strips", height, width, levels);
+    a = tetrolet_join(height, width / 2, levels, p, half, d, part, height, width / 2, levels, p + half, half, d + part, part, joined, area, c, blocks);
+    for (int form = 0; form < 2; form++) {
+        b = base_join(form, height, width / 2, levels, p, half, d, part, height, width / 2, levels, p + half, half, d + part, part, plane[1], area,
+                      coverings[1], blocks);
+        check(a == 0 && b == 0 && !memcmp(joined, plane[1], area * sizeof *joined) && !memcmp(c, coverings[1], blocks), "joined strips", height,
+              width, levels);
+    }
+    a = tetrolet_restore(height, width, levels, joined, area, c, blocks, numerators[1], area, samples[1], area, scratch[1], area);
+    check(a == 0 && !memcmp(n, numerators[1], area * sizeof *n), "numerators of two strips and of the joined one", height, width, levels);
+}
+
+/* Whether both give the same, through all entries. Gives whether two strips were joined too. */
+static int agree(size_t height, size_t width, size_t levels, int kind)
 {
     size_t area = height * width, blocks = tetrolet_blocks(height, width, levels), bytes = area * sizeof(int64_t);
     size_t left[2], length[2], h[2], w[2], l[2];
@@ -135,6 +161,10 @@ static void agree(size_t height, size_t width, size_t levels, int kind)
     a = tetrolet_test_image(height, width, start, samples[0], area);
     b = base_test_image(height, width, start, samples[1], area);
     check(a == 0 && b == 0 && !memcmp(samples[0], samples[1], area * sizeof(uint16_t)), "test images", height, width, levels);
+    if (width / 2 >> levels < 2)
+        return 0;
+    agree_joined(height, width, levels);
+    return 1;
 }
 
 /* Takes the time of one call, in milliseconds, where it is the best so far. */
@@ -151,15 +181,17 @@ static void agree(size_t height, size_t width, size_t levels, int kind)
 struct times {
     double decompose, straight, shared, within[TOLERANCES], within_straight[TOLERANCES], within_shared[TOLERANCES];
     double listed[LISTS], listed_straight[LISTS], listed_shared[LISTS], restore_listed, base_restore_listed; /* restored by sixteen */
-    double restore, base_restore, keep, base_keep, write, digits, printed, read, base_read, usage, base_usage, test, base_test;
+    double restore, base_restore, keep, base_keep, write, digits, printed, read, base_read, usage, base_usage, test, base_test, join, base_join[2];
     double kept_write, kept_digits, kept_read, kept_base_read; /* of the plane that keep leaves */
 };
 
-/* The best of several rounds. Each round has one call of each entry, so that a busy machine hits all alike. */
+/* The best of several rounds. Each round has one call of each entry, so that a busy machine hits all alike. Joined are the two halves of the image, with
+   one level less where their width asks for it. */
 static struct times measure(size_t height, size_t width, size_t levels)
 {
     struct times t = { 0 };
     size_t area = height * width, blocks = tetrolet_blocks(height, width, levels), bytes = area * sizeof(int64_t), left, length, rows, columns, l;
+    size_t half = area / 2, deep = width / 2 >> levels < 2 ? levels - 1 : levels, part = tetrolet_blocks(height, width / 2, deep);
     make_image(height, width, 1);
     for (int run = 0; run < RUNS; run++) {
         int64_t *p = plane[0], *q = plane[1], *n = numerators[0], *w = scratch[0];
@@ -201,6 +233,18 @@ static struct times measure(size_t height, size_t width, size_t levels)
         TIME(t.usage, tetrolet_usage(c, blocks, text, TETROLET_MAX_USAGE, &length));
         TIME(t.base_test, base_test_image(height, width, (uint32_t)run, samples[0], area));
         TIME(t.test, tetrolet_test_image(height, width, (uint32_t)run, samples[0], area));
+        for (size_t k = 0; k < 2; k++)
+            if (tetrolet_decompose(height, width / 2, deep, image + k * half, half, p + k * half, half, c + k * part, part, w, half) != 0)
+                abort();
+        for (int k = 0; k < 3; k++) { /* which of the three is the first goes by turns */
+            int form = (run + k) % 3;
+            if (form < 2)
+                TIME(t.base_join[form], base_join(form, height, width / 2, deep, p, half, c, part, height, width / 2, deep, p + half, half, c + part,
+                                                  part, n, area, d, 2 * part));
+            else
+                TIME(t.join, tetrolet_join(height, width / 2, deep, p, half, c, part, height, width / 2, deep, p + half, half, c + part, part, n, area,
+                                           d, 2 * part));
+        }
     }
     return t;
 }
@@ -224,9 +268,9 @@ static void head(size_t height, size_t width, size_t levels)
     columns();
 }
 
-static double faster(double straight, double shared)
+static double faster(double one, double other)
 {
-    return straight < shared ? straight : shared;
+    return one < other ? one : other;
 }
 
 /* The rows of a strip. The bars are those of 512 by 512, so it has none. */
@@ -240,6 +284,7 @@ static void strip(size_t height, size_t width, size_t levels)
     line("keep", t.keep, "buckets", t.base_keep, 0);
     line("write", t.write, "digits", t.digits, 0);
     line("read", t.read, "plain", t.base_read, 0);
+    line("join", t.join, "faster", faster(t.base_join[BASE_SINGLE], t.base_join[BASE_FOURS]), 0);
 }
 
 #define SHEETS 20000
@@ -364,15 +409,15 @@ int main(int argc, char **argv)
         return peak_run(1);
     if (argc == 2 && !strcmp(argv[1], "peak-baseline"))
         return peak_run(0);
-    size_t images = 0, strips = 0;
+    size_t images = 0, strips = 0, joined = 0;
     for (size_t height = 4; height <= 512; height *= 2)
         for (size_t width = 4; width <= 512; width *= 2)
             for (size_t levels = 1; height >> levels >= 2 && width >> levels >= 2; levels++)
                 for (int kind = 0; kind < 3; kind++, images++) {
-                    agree(height, width, levels, kind);
+                    joined += (size_t)agree(height, width, levels, kind);
                     strips += height != width;
                 }
-    printf("both agree on %zu images, %zu of them strips\n\n", images, strips);
+    printf("both agree on %zu images, %zu of them strips, and on %zu joined from two strips\n\n", images, strips, joined);
 
     struct times t = measure(512, 512, 8);
     head(512, 512, 8);
@@ -400,6 +445,9 @@ int main(int argc, char **argv)
     line("read kept", t.kept_read, "plain", t.kept_base_read, 0);
     line("usage", t.usage, "one pass", t.base_usage, 0);
     line("test image", t.test, "plain", t.base_test, 0);
+    line("join", t.join, "single", t.base_join[BASE_SINGLE], 0);
+    line("join", t.join, "fours", t.base_join[BASE_FOURS], 0);
+    line("join", t.join, "faster", faster(t.base_join[BASE_SINGLE], t.base_join[BASE_FOURS]), 1.3);
 
     strip(512, 64, 5);
     strip(64, 512, 5);

@@ -1,6 +1,7 @@
 /* A caller in C: decomposes a small strip, first with a tolerance and then without, to show how many different coverings a mill needs; keeps the best
    coefficients, writes the sheet, reads it back and restores it; does the same with a list of sixteen coverings, to show how much farther the picture
-   is then. Then what an installer runs: a test image, made from a number, goes there and back. */
+   is then. Then the strip as two halves, each decomposed and cut by itself, as a wide leaf is scanned: joined, they restore to the two side by side.
+   Then what an installer runs: a test image, made from a number, goes there and back. */
 #include "sixteen.h"
 #include "tetrolet.h"
 
@@ -9,6 +10,9 @@
 #include <stdlib.h>
 
 enum { HEIGHT = 8, WIDTH = 32, LEVELS = 2, AREA = HEIGHT * WIDTH, BLOCKS = 2 * 8 + 4, QUOTA = 60, TOLERANCE = 16 };
+
+/* A half of it, left or right, and what it is cut to. */
+enum { HALF_WIDTH = WIDTH / 2, HALF = AREA / 2, HALF_BLOCKS = BLOCKS / 2, LEFT_QUOTA = 35, RIGHT_QUOTA = 25 };
 
 static void accepted(const char *what, uint32_t refusal)
 {
@@ -32,6 +36,32 @@ static long squared_distance(const uint16_t *a, const uint16_t *b)
     for (int k = 0; k < AREA; k++)
         distance += ((long)a[k] - b[k]) * ((long)a[k] - b[k]);
     return distance;
+}
+
+static int same_samples(const uint16_t *a, const uint16_t *b)
+{
+    int same = 0;
+    for (int k = 0; k < AREA; k++)
+        same += a[k] == b[k];
+    return same;
+}
+
+static int same_numerators(const int64_t *a, const int64_t *b)
+{
+    int same = 0;
+    for (int k = 0; k < AREA; k++)
+        same += a[k] == b[k];
+    return same;
+}
+
+/* Joins the two halves, which stand one after the other, and restores what comes of it. */
+static void join_and_restore(const int64_t *halves, const uint8_t *half_coverings, int64_t *numerators, uint16_t *samples)
+{
+    static int64_t plane[AREA], scratch[AREA];
+    static uint8_t coverings[BLOCKS];
+    accepted("join", tetrolet_join(HEIGHT, HALF_WIDTH, LEVELS, halves, HALF, half_coverings, HALF_BLOCKS, HEIGHT, HALF_WIDTH, LEVELS, halves + HALF,
+                                   HALF, half_coverings + HALF_BLOCKS, HALF_BLOCKS, plane, AREA, coverings, BLOCKS));
+    accepted("restore", tetrolet_restore(HEIGHT, WIDTH, LEVELS, plane, AREA, coverings, BLOCKS, numerators, AREA, samples, AREA, scratch, AREA));
 }
 
 int main(void)
@@ -82,12 +112,27 @@ int main(void)
     printf("with a list of %zu coverings: %d different ones, squared distance %ld; with all 117: %d, %ld\n", sizeof sixteen, different(coverings),
            squared_distance(samples, image), kinds, distance);
 
+    /* Columns stand one after the other, so the left half of the image is the first half of its samples. */
+    static int64_t halves[AREA], half_numerators[AREA];
+    static uint8_t half_coverings[BLOCKS];
+    const uint64_t quotas[2] = { LEFT_QUOTA, RIGHT_QUOTA };
+    for (int k = 0; k < 2; k++)
+        accepted("decompose", tetrolet_decompose(HEIGHT, HALF_WIDTH, LEVELS, image + k * HALF, HALF, halves + k * HALF, HALF,
+                                                 half_coverings + k * HALF_BLOCKS, HALF_BLOCKS, scratch, HALF));
+    join_and_restore(halves, half_coverings, numerators, samples);
+    printf("joined two strips of width %d, uncut: %d of %d samples restored\n", HALF_WIDTH, same_samples(samples, image), AREA);
+    for (int k = 0; k < 2; k++) {
+        accepted("keep", tetrolet_keep(HEIGHT, HALF_WIDTH, LEVELS, halves + k * HALF, HALF, quotas[k], &left));
+        accepted("restore", tetrolet_restore(HEIGHT, HALF_WIDTH, LEVELS, halves + k * HALF, HALF, half_coverings + k * HALF_BLOCKS, HALF_BLOCKS,
+                                             half_numerators + k * HALF, HALF, samples + k * HALF, HALF, scratch, HALF));
+    }
+    join_and_restore(halves, half_coverings, numerators, samples);
+    printf("cut to %d and %d, then joined: %d of %d numerators are those of the two strips; squared distance %ld\n", LEFT_QUOTA, RIGHT_QUOTA,
+           same_numerators(numerators, half_numerators), AREA, squared_distance(samples, image));
+
     accepted("test image", tetrolet_test_image(HEIGHT, WIDTH, 0, image, AREA));
     accepted("decompose", tetrolet_decompose(HEIGHT, WIDTH, LEVELS, image, AREA, plane, AREA, coverings, BLOCKS, scratch, AREA));
     accepted("restore", tetrolet_restore(HEIGHT, WIDTH, LEVELS, plane, AREA, coverings, BLOCKS, numerators, AREA, samples, AREA, scratch, AREA));
-    int same = 0;
-    for (int k = 0; k < AREA; k++)
-        same += samples[k] == image[k];
-    printf("test image from 0: first sample %d; %d of %d samples restored\n", image[0], same, AREA);
+    printf("test image from 0: first sample %d; %d of %d samples restored\n", image[0], same_samples(samples, image), AREA);
     return 0;
 }

@@ -1,6 +1,7 @@
 // A caller in Rust: decomposes a small strip, first with a tolerance and then without, to show how many different coverings a mill needs; keeps the best
 // coefficients, writes the sheet, reads it back and restores it; does the same with a list of sixteen coverings, to show how much farther the picture
-// is then. Then what an installer runs: a test image, made from a number, goes there and back.
+// is then. Then the strip as two halves, each decomposed and cut by itself, as a wide leaf is scanned: joined, they restore to the two side by side.
+// Then what an installer runs: a test image, made from a number, goes there and back.
 // The functions below wrap the C entries in slices, so that lengths and pointers cannot be mistaken.
 
 use std::collections::BTreeSet;
@@ -90,6 +91,26 @@ mod ffi {
             plane_len: usize,
             quota: u64,
             left: *mut usize,
+        ) -> u32;
+        pub fn tetrolet_join(
+            left_height: usize,
+            left_width: usize,
+            left_levels: usize,
+            left_plane: *const i64,
+            left_plane_len: usize,
+            left_coverings: *const u8,
+            left_coverings_len: usize,
+            right_height: usize,
+            right_width: usize,
+            right_levels: usize,
+            right_plane: *const i64,
+            right_plane_len: usize,
+            right_coverings: *const u8,
+            right_coverings_len: usize,
+            plane: *mut i64,
+            plane_len: usize,
+            coverings: *mut u8,
+            coverings_len: usize,
         ) -> u32;
         pub fn tetrolet_write(
             height: usize,
@@ -307,6 +328,41 @@ fn keep(
     answer(n, left)
 }
 
+// A strip that is joined to another.
+struct Strip<'a> {
+    height: usize,
+    width: usize,
+    levels: usize,
+    plane: &'a [i64],
+    coverings: &'a [u8],
+}
+
+fn join(left: &Strip, right: &Strip, plane: &mut [i64], coverings: &mut [u8]) -> Answer<()> {
+    let n = unsafe {
+        ffi::tetrolet_join(
+            left.height,
+            left.width,
+            left.levels,
+            left.plane.as_ptr(),
+            left.plane.len(),
+            left.coverings.as_ptr(),
+            left.coverings.len(),
+            right.height,
+            right.width,
+            right.levels,
+            right.plane.as_ptr(),
+            right.plane.len(),
+            right.coverings.as_ptr(),
+            right.coverings.len(),
+            plane.as_mut_ptr(),
+            plane.len(),
+            coverings.as_mut_ptr(),
+            coverings.len(),
+        )
+    };
+    answer(n, ())
+}
+
 fn write(
     height: usize,
     width: usize,
@@ -366,17 +422,24 @@ const BLOCKS: usize = 2 * 8 + 4;
 const QUOTA: u64 = 60;
 const TOLERANCE: u64 = 16;
 
+// A half of it, left or right, and what it is cut to.
+const HALF_WIDTH: usize = WIDTH / 2;
+const HALF: usize = AREA / 2;
+const LEFT_QUOTA: u64 = 35;
+const RIGHT_QUOTA: u64 = 25;
+
 // Sixteen coverings with different directions; sixteen.h says where they are from.
 const SIXTEEN: [u8; 16] = [
     1, 5, 10, 17, 25, 28, 57, 60, 65, 68, 79, 86, 105, 108, 109, 117,
 ];
 
-// The plane and the coverings of an image.
-fn planed(image: &[u16]) -> Answer<(Vec<i64>, Vec<u8>)> {
-    let (mut plane, mut coverings, mut scratch) = (vec![0; AREA], vec![0; BLOCKS], vec![0; AREA]);
+// The plane and the coverings of an image, which may be a half.
+fn planed(width: usize, image: &[u16]) -> Answer<(Vec<i64>, Vec<u8>)> {
+    let (area, blocks) = (image.len(), BLOCKS * width / WIDTH);
+    let (mut plane, mut coverings, mut scratch) = (vec![0; area], vec![0; blocks], vec![0; area]);
     decompose(
         HEIGHT,
-        WIDTH,
+        width,
         LEVELS,
         image,
         &mut plane,
@@ -423,15 +486,16 @@ fn different(coverings: &[u8]) -> usize {
     coverings.iter().collect::<BTreeSet<_>>().len()
 }
 
-// The samples of a plane and its coverings.
+// The numerators and the samples of a plane and its coverings.
 fn restored(
     height: usize,
     width: usize,
     levels: usize,
     plane: &[i64],
     coverings: &[u8],
-) -> Answer<Vec<u16>> {
-    let (mut numerators, mut samples, mut scratch) = (vec![0; AREA], vec![0; AREA], vec![0; AREA]);
+) -> Answer<(Vec<i64>, Vec<u16>)> {
+    let area = plane.len();
+    let (mut numerators, mut samples, mut scratch) = (vec![0; area], vec![0; area], vec![0; area]);
     restore(
         height,
         width,
@@ -442,10 +506,10 @@ fn restored(
         &mut samples,
         &mut scratch,
     )?;
-    Ok(samples)
+    Ok((numerators, samples))
 }
 
-// The same by a list.
+// The samples by a list.
 fn restored_by(plane: &[i64], coverings: &[u8], list: &[u8]) -> Answer<Vec<u16>> {
     let (mut numerators, mut samples, mut scratch) = (vec![0; AREA], vec![0; AREA], vec![0; AREA]);
     restore_listed(
@@ -462,11 +526,32 @@ fn restored_by(plane: &[i64], coverings: &[u8], list: &[u8]) -> Answer<Vec<u16>>
     Ok(samples)
 }
 
+// The numerators and the samples of two halves, joined.
+fn joined(left: &Strip, right: &Strip) -> Answer<(Vec<i64>, Vec<u16>)> {
+    let (mut plane, mut coverings) = (vec![0; AREA], vec![0; BLOCKS]);
+    join(left, right, &mut plane, &mut coverings)?;
+    restored(HEIGHT, WIDTH, LEVELS, &plane, &coverings)
+}
+
+fn half<'a>(plane: &'a [i64], coverings: &'a [u8]) -> Strip<'a> {
+    Strip {
+        height: HEIGHT,
+        width: HALF_WIDTH,
+        levels: LEVELS,
+        plane,
+        coverings,
+    }
+}
+
 fn squared_distance(a: &[u16], b: &[u16]) -> i64 {
     a.iter()
         .zip(b)
         .map(|(a, b)| (*a as i64 - *b as i64).pow(2))
         .sum()
+}
+
+fn same<T: PartialEq>(a: &[T], b: &[T]) -> usize {
+    a.iter().zip(b).filter(|(a, b)| a == b).count()
 }
 
 fn run() -> Answer<()> {
@@ -480,7 +565,7 @@ fn run() -> Answer<()> {
     }
 
     let near_kinds = different(&covered(&image, TOLERANCE)?);
-    let (mut plane, coverings) = planed(&image)?;
+    let (mut plane, coverings) = planed(WIDTH, &image)?;
     let kinds = different(&coverings);
     let entries = plane.iter().filter(|v| **v != 0).count();
     println!("decomposed height {HEIGHT}, width {WIDTH} with {LEVELS} levels: {BLOCKS} blocks, {kinds} different coverings, {entries} plane entries not zero");
@@ -495,7 +580,7 @@ fn run() -> Answer<()> {
     let (height, width, levels) = read(&sheet[..length], &mut plane, &mut coverings)?;
     println!("read it back: height {height}, width {width}, levels {levels}");
 
-    let samples = restored(height, width, levels, &plane, &coverings)?;
+    let (_, samples) = restored(height, width, levels, &plane, &coverings)?;
     let distance = squared_distance(&image, &samples);
     println!("restored: squared distance {distance} over {AREA} samples");
 
@@ -509,13 +594,38 @@ fn run() -> Answer<()> {
         squared_distance(&image, &samples)
     );
 
-    test_image(HEIGHT, WIDTH, 0, &mut image)?;
-    let (plane, coverings) = planed(&image)?;
-    let samples = restored(HEIGHT, WIDTH, LEVELS, &plane, &coverings)?;
-    let same = image.iter().zip(&samples).filter(|(a, b)| a == b).count();
+    // Columns stand one after the other, so the left half of the image is the first half of its samples.
+    let (mut left, left_coverings) = planed(HALF_WIDTH, &image[..HALF])?;
+    let (mut right, right_coverings) = planed(HALF_WIDTH, &image[HALF..])?;
+    let (_, samples) = joined(
+        &half(&left, &left_coverings),
+        &half(&right, &right_coverings),
+    )?;
     println!(
-        "test image from 0: first sample {}; {same} of {AREA} samples restored",
-        image[0]
+        "joined two strips of width {HALF_WIDTH}, uncut: {} of {AREA} samples restored",
+        same(&image, &samples)
+    );
+    keep(HEIGHT, HALF_WIDTH, LEVELS, &mut left, LEFT_QUOTA)?;
+    keep(HEIGHT, HALF_WIDTH, LEVELS, &mut right, RIGHT_QUOTA)?;
+    let (mut apart, _) = restored(HEIGHT, HALF_WIDTH, LEVELS, &left, &left_coverings)?;
+    apart.extend(restored(HEIGHT, HALF_WIDTH, LEVELS, &right, &right_coverings)?.0);
+    let (numerators, samples) = joined(
+        &half(&left, &left_coverings),
+        &half(&right, &right_coverings),
+    )?;
+    println!(
+        "cut to {LEFT_QUOTA} and {RIGHT_QUOTA}, then joined: {} of {AREA} numerators are those of the two strips; squared distance {}",
+        same(&numerators, &apart),
+        squared_distance(&image, &samples)
+    );
+
+    test_image(HEIGHT, WIDTH, 0, &mut image)?;
+    let (plane, coverings) = planed(WIDTH, &image)?;
+    let (_, samples) = restored(HEIGHT, WIDTH, LEVELS, &plane, &coverings)?;
+    println!(
+        "test image from 0: first sample {}; {} of {AREA} samples restored",
+        image[0],
+        same(&image, &samples)
     );
     Ok(())
 }

@@ -30,20 +30,22 @@ extern "C" {
 /* The refusals. */
 enum {
     TETROLET_ACCEPTED = 0,
-    TETROLET_SIDE = 1,        /* the height or the width is not a power of two, 4 to 512 */
-    TETROLET_LEVELS = 2,      /* levels out of range for the smaller of height and width */
-    TETROLET_LENGTH = 3,      /* a slice is not of its exact length */
-    TETROLET_SAMPLE = 4,      /* a sample is over 4,095 */
-    TETROLET_COVERING = 5,    /* a covering is 0 or over 117 */
-    TETROLET_COEFFICIENT = 6, /* a plane entry is out of its range */
-    TETROLET_QUOTA = 7,       /* the quota is over A - A / 4^R, where A is height * width */
-    TETROLET_THRESHOLD = 8,   /* the threshold is over 1,000,000 */
-    TETROLET_TEXT = 9,        /* the text breaks the line rules */
-    TETROLET_BUFFER = 10,     /* the text is longer than the buffer */
-    TETROLET_SEQUENCE = 11,   /* block lines or plane lines that are not at their places */
-    TETROLET_BENCH = 12,      /* cutter: the height or the width is over 32 */
-    TETROLET_TOLERANCE = 13,  /* the tolerance is over 4,095 */
-    TETROLET_LIST = 14        /* the list is empty, does not strictly rise, or holds 0 or a number over 117 */
+    TETROLET_SIDE = 1,          /* the height or the width is not a power of two, 4 to 512 */
+    TETROLET_LEVELS = 2,        /* levels out of range for the smaller of height and width */
+    TETROLET_LENGTH = 3,        /* a slice is not of its exact length */
+    TETROLET_SAMPLE = 4,        /* a sample is over 4,095 */
+    TETROLET_COVERING = 5,      /* a covering is 0 or over 117 */
+    TETROLET_COEFFICIENT = 6,   /* a plane entry is out of its range */
+    TETROLET_QUOTA = 7,         /* the quota is over A - A / 4^R, where A is height * width */
+    TETROLET_THRESHOLD = 8,     /* the threshold is over 1,000,000 */
+    TETROLET_TEXT = 9,          /* the text breaks the line rules */
+    TETROLET_BUFFER = 10,       /* the text is longer than the buffer */
+    TETROLET_SEQUENCE = 11,     /* block lines or plane lines that are not at their places */
+    TETROLET_BENCH = 12,        /* cutter: the height or the width is over 32 */
+    TETROLET_TOLERANCE = 13,    /* the tolerance is over 4,095 */
+    TETROLET_LIST = 14,         /* the list is empty, does not strictly rise, or holds 0 or a number over 117 */
+    TETROLET_MISMATCH = 15,     /* join: the heights, the widths or the levels of the two strips differ */
+    TETROLET_JOINED_WIDTH = 16  /* join: the joined width is over 512 */
 };
 
 /* The largest counts: samples of an image, coverings of an image, bytes of a sheet, bytes of a usage list. */
@@ -147,6 +149,23 @@ uint32_t tetrolet_keep(size_t height, size_t width, size_t levels, int64_t *plan
  * Refusals: 1, 2, 3, 6, 8.
  */
 uint32_t tetrolet_threshold(size_t height, size_t width, size_t levels, int64_t *plane, size_t plane_len, uint64_t threshold, size_t *left);
+
+/*
+ * Joins two neighbouring strips, a left and a right one of the same height, width and levels, to one that is twice as wide. Each band of each level,
+ * the last low-pass too, and the coverings of each level hold the left strip's columns, then the right strip's.
+ * Restored, the joined strip has the left strip's numerators, then the right strip's: the two side by side, for cut planes too. tetrolet_restore,
+ * tetrolet_keep, tetrolet_threshold and tetrolet_write take it with the strips' height, twice their width and their levels. It need not be the plane
+ * that tetrolet_decompose gives for the wide image: there the ties of a block are settled by all earlier blocks, those of the other half too.
+ *   left_plane, right_plane          height * width entries in range, as for tetrolet_restore, read
+ *   left_coverings, right_coverings  B numbers, 1 to 117, read
+ *   plane                            2 * height * width entries, written
+ *   coverings                        2 * B numbers, written
+ * Refusals: 1, 2, 15, 16, 3, 5, 6. 1, 2, 3, 5 and 6 look at the left strip, then at the right one; 3 then looks at plane and coverings.
+ */
+uint32_t tetrolet_join(size_t left_height, size_t left_width, size_t left_levels, const int64_t *left_plane, size_t left_plane_len,
+                       const uint8_t *left_coverings, size_t left_coverings_len, size_t right_height, size_t right_width, size_t right_levels,
+                       const int64_t *right_plane, size_t right_plane_len, const uint8_t *right_coverings, size_t right_coverings_len,
+                       int64_t *plane, size_t plane_len, uint8_t *coverings, size_t coverings_len);
 
 /*
  * Writes a plane and its coverings as a sheet.

@@ -7,11 +7,14 @@
    The error output has the squared distance of each to the original, and the coefficients left by level; and the same for a way that
    is not shown, ranking by |W| alone (the plain C of bench/baseline.c), which starves the fine levels. */
 #include "baseline.h"
+#include "figures.h"
 #include "image.h"
 #include "tetrolet.h"
 
 #include <stdlib.h>
 #include <string.h>
+
+const char program[] = "compare";
 
 static uint16_t image[TETROLET_MAX_AREA], left_old[TETROLET_MAX_AREA], left_ours[TETROLET_MAX_AREA], left_raw[TETROLET_MAX_AREA];
 static int64_t plane[TETROLET_MAX_AREA], kept[TETROLET_MAX_AREA], numerators[TETROLET_MAX_AREA], scratch[TETROLET_MAX_AREA];
@@ -75,30 +78,12 @@ static void share_by_level(size_t height, size_t width, size_t levels, int64_t *
 
 /* ---- Figures ---- */
 
-static void accepted(const char *what, uint32_t refusal)
-{
-    if (refusal != 0) {
-        fprintf(stderr, "compare: %s was refused: %u\n", what, (unsigned)refusal);
-        exit(1);
-    }
-}
-
-static unsigned long long distance(const uint16_t *a, const uint16_t *b, size_t n)
-{
-    unsigned long long sum = 0;
-    for (size_t i = 0; i < n; i++) {
-        long d = (long)a[i] - b[i];
-        sum += (unsigned long long)(d * d);
-    }
-    return sum;
-}
-
 /* Restores `kept` and prints its squared distance to the original, and how many tetrolet coefficients each level has left. */
 static void restore_and_say(const char *what, size_t height, size_t width, size_t levels, uint16_t *samples)
 {
     size_t area = height * width, blocks = tetrolet_blocks(height, width, levels);
     accepted("restore", tetrolet_restore(height, width, levels, kept, area, coverings, blocks, numerators, area, samples, area, scratch, area));
-    unsigned long long d = distance(image, samples, area);
+    unsigned long long d = squared_distance(image, samples, area);
     fprintf(stderr, "%-13s squared distance %llu, for each sample %.1f; ", what, d, (double)d / (double)area);
     fprintf(stderr, "coefficients left by level:");
     for (size_t r = 1; r <= levels; r++) {
@@ -113,22 +98,18 @@ static void restore_and_say(const char *what, size_t height, size_t width, size_
 
 int main(int argc, char **argv)
 {
-    uint8_t *bytes;
-    size_t length, left;
-    struct pgm h;
+    size_t left, height, width;
     if (argc != 3) {
         fprintf(stderr, "use: compare LEVELS QUOTA <in.pgm >out.png\n");
         return 2;
     }
     size_t levels = strtoul(argv[1], NULL, 10);
     uint64_t quota = strtoull(argv[2], NULL, 10);
-    if (!read_all(stdin, (size_t)1 << 24, &bytes, &length) || !pgm_header(bytes, length, &h) || h.height > 512 || h.height < 64
-        || h.width > 512 || h.width < 64 || h.maxval > 4095 || !pgm_samples(&h, image)) {
-        fprintf(stderr, "compare: no PGM file of height and width 64 to 512 with maxval up to 4095\n");
-        return 1;
-    }
+    take_image(image, &height, &width);
+    if (height < 64 || width < 64)
+        fail("no image of height and width from 64 on");
     base_init();
-    size_t height = h.height, width = h.width, area = height * width, blocks = tetrolet_blocks(height, width, levels > 8 ? 0 : levels);
+    size_t area = height * width, blocks = tetrolet_blocks(height, width, levels > 8 ? 0 : levels);
     accepted("decompose", tetrolet_decompose(height, width, levels, image, area, plane, area, coverings, blocks, scratch, area));
 
     /* Ours first: it refuses a quota that is too large. */
@@ -169,6 +150,5 @@ int main(int argc, char **argv)
                 }
     int good = png_write(stdout, grey, (uint32_t)columns, (uint32_t)rows);
     free(grey);
-    free(bytes);
     return !good;
 }

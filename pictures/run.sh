@@ -1,7 +1,7 @@
 #!/usr/bin/env bash
 # Builds the picture programs; makes the synthetic veneer and the picture of what a quota leaves of it, and compares both with those
 # kept here; turns the veneer, and two strips of it, into a sheet and back; makes a test image from a number, the one that every site has;
-# prints what a tolerance and a list of coverings do to the veneer and to the test image.
+# prints what a tolerance and a list of coverings do to the veneer and to the test image; joins the sheets of the veneer's halves.
 # Needs a C compiler. With --built the library is taken as it stands.
 set -eu
 cd "$(dirname "$0")/.."
@@ -18,7 +18,7 @@ cc $flags pictures/veneer.c pictures/image.c -o target/pictures/veneer
 target/pictures/veneer >target/pictures/veneer.pgm
 cmp target/pictures/veneer.pgm pictures/veneer.pgm
 
-cc $flags pictures/compare.c pictures/image.c bench/baseline.c "$archive" -o target/pictures/compare
+cc $flags pictures/compare.c pictures/figures.c pictures/image.c bench/baseline.c "$archive" -o target/pictures/compare
 target/pictures/compare $levels $quota <pictures/veneer.pgm >target/pictures/quota.png
 cmp target/pictures/quota.png pictures/quota.png
 
@@ -43,8 +43,32 @@ target/pictures/pgm test-image 512 512 0 >target/pictures/test.pgm
 target/pictures/pgm to-sheet 8 $((512 * 512 - 4)) <target/pictures/test.pgm | target/pictures/pgm to-pgm | cmp - target/pictures/test.pgm
 echo "target/pictures/test.pgm: the test image of 512 by 512 from 0, with the checksum that every site has; the whole quota gives it back"
 
-cc $flags pictures/choice.c pictures/image.c "$archive" -lm -o target/pictures/choice
+cc $flags pictures/choice.c pictures/figures.c pictures/image.c "$archive" -lm -o target/pictures/choice
 echo "a tolerance, and a list of coverings: the veneer with 7 levels, quota 1966"
 target/pictures/choice 7 1966 <pictures/veneer.pgm
 echo "a tolerance, and a list of coverings: the test image with 8 levels, quota 7864"
 target/pictures/choice 8 7864 <target/pictures/test.pgm
+
+# The left and the right half of the veneer, each cut to its own quota, joined; then both whole.
+half=128 levels=6 left=1100 right=866 each=983
+whole=$((256 * half - 256 * half / 4 ** levels))
+tool=target/pictures/pgm at=target/pictures
+$tool columns 0 $half <pictures/veneer.pgm >$at/left.pgm
+$tool columns $half $half <pictures/veneer.pgm >$at/right.pgm
+for name in left right; do
+    $tool to-sheet $levels ${!name} <$at/$name.pgm >$at/$name.sheet
+    $tool to-sheet $levels $whole <$at/$name.pgm >$at/whole-$name.sheet
+done
+$tool join $at/left.sheet $at/right.sheet >$at/joined.sheet
+$tool to-pgm <$at/joined.sheet >$at/joined.pgm
+$tool columns 0 $half <$at/joined.pgm | cmp - <($tool to-pgm <$at/left.sheet)
+$tool columns $half $half <$at/joined.pgm | cmp - <($tool to-pgm <$at/right.sheet)
+echo "$at/joined.pgm: the two halves of the veneer, cut to $left and $right and joined, are those restored each by itself"
+$tool join $at/whole-left.sheet $at/whole-right.sheet | $tool to-pgm | cmp - pictures/veneer.pgm
+echo "the whole quota of each, $whole, gives the picture back"
+
+cc $flags pictures/strips.c pictures/figures.c pictures/image.c "$archive" -o target/pictures/strips
+for quotas in "$each $each" "$left $right"; do
+    echo "two strips: the halves of the veneer with $levels levels, quotas $quotas"
+    target/pictures/strips $levels $quotas <pictures/veneer.pgm
+done

@@ -53,6 +53,15 @@ def of_sheet_blocks(e):
     return blocks(*sheet_frame(e))
 
 
+def of_joined_area(e):
+    height, width = e["args"]["left"][:2]
+    return 2 * area(height, width)
+
+
+def of_joined_blocks(e):
+    return 2 * blocks(*e["args"]["left"][:3])
+
+
 def of_text(e):
     want = e.get("result", {}).get("tray", "")
     return len(want) if want else 64
@@ -95,6 +104,23 @@ class Slice:
         return [self.data[i] for i in range(self.count)] if self.length else None
 
 
+class Strip:
+    """A strip that is only read, [height, width, levels, plane, coverings]."""
+
+    def __init__(self, name):
+        self.name = name
+        self.parts = [Number("height"), Number("width"), Number("levels"), Slice("plane", "i64"), Slice("covers", "u8")]
+
+    def lend(self, e):
+        given = {"args": dict(zip([p.name for p in self.parts], e["args"][self.name]))}
+        for p in self.parts:
+            p.lend(given)
+        self.flat = tuple(x for p in self.parts for x in p.flat)
+
+    def value(self):
+        return None
+
+
 class Text(Slice):
     """A buffer of bytes, which the results give as a text."""
 
@@ -133,6 +159,7 @@ ENTRIES = {
     "restore_listed": ("tetrolet_restore_listed", FRAME + [PLANE, COVERS, LIST] + RESTORED),
     "keep": ("tetrolet_keep", FRAME + [Slice("plane", "i64", of_area), Number("quota", "u64"), Given("left")]),
     "cut": ("tetrolet_threshold", FRAME + [Slice("plane", "i64", of_area), Number("threshold", "u64"), Given("left")]),
+    "join": ("tetrolet_join", [Strip("left"), Strip("right"), Slice("plane", "i64", of_joined_area), Slice("covers", "u8", of_joined_blocks)]),
     "write": ("tetrolet_write", FRAME + [PLANE, COVERS, Text("tray", "u8", of_text), Given("length")]),
     "read": ("tetrolet_read", [Slice("text", "u8"), Slice("plane", "i64", of_sheet_area), Slice("covers", "u8", of_sheet_blocks), Given("height"), Given("width"), Given("levels")]),
     "usage": ("tetrolet_usage", [COVERS, Text("tray", "u8", of_text), Given("length")]),

@@ -45,7 +45,7 @@ static int once_in(uint64_t n)
 /* ---- Slices ---- */
 
 #define SLOTS 6
-#define ROOM ((size_t)6 << 20)
+#define ROOM ((size_t)8 << 20)
 #define PAGE ((size_t)4096)
 
 struct slice {
@@ -221,51 +221,107 @@ struct frame {
     size_t height, width, levels, made_height, made_width, made_levels, area, blocks;
 };
 
-/* The sizes that the slices are made for: a square once in five times, else a strip. */
-static void make_sizes(struct frame *f)
+/* The most levels that the slices may be made for. */
+static size_t made_depth(const struct frame *f)
 {
+    size_t a = most_levels(f->made_height), b = most_levels(f->made_width);
+    return a < b ? a : b;
+}
+
+/* A call with the height, the width and the levels that the slices are made for. */
+static void settle_frame(struct frame *f)
+{
+    f->height = f->made_height;
+    f->width = f->made_width;
+    f->levels = f->made_levels;
+    f->area = f->made_height * f->made_width;
+    f->blocks = tetrolet_blocks(f->made_height, f->made_width, f->made_levels);
+}
+
+/* Slices of any size: a square once in five times, else a strip. */
+static struct frame good_frame(void)
+{
+    struct frame f;
     size_t a = small_side(), b = a;
     if (!once_in(5))
         while (a == b)
             b = large_side();
     int turn = once_in(2);
-    f->made_height = turn ? a : b;
-    f->made_width = turn ? b : a;
+    f.made_height = turn ? a : b;
+    f.made_width = turn ? b : a;
+    f.made_levels = 1 + below(made_depth(&f));
+    settle_frame(&f);
+    return f;
 }
 
-static struct frame make_frame(void)
+/* Now and then the call has a height, a width or levels that the slices are not made for. */
+static void spoil_frame(struct frame *f)
 {
     static const size_t bad_sides[] = { 0, 1, 2, 3, 5, 6, 7, 12, 20, 24, 48, 513, 1024, 65540, (size_t)1 << 32, ((size_t)1 << 32) + 4, (size_t)1 << 63,
                                         SIZE_MAX };
     static const size_t bad_levels[] = { 0, 9, 10, 63, 64, 65, 257, ((size_t)1 << 32) + 1, SIZE_MAX };
-    struct frame f;
-    make_sizes(&f);
-    size_t of_height = most_levels(f.made_height), of_width = most_levels(f.made_width);
-    size_t most = of_height < of_width ? of_height : of_width, other = of_height < of_width ? of_width : of_height;
-    f.made_levels = 1 + below(most);
-    f.area = f.made_height * f.made_width;
-    f.blocks = tetrolet_blocks(f.made_height, f.made_width, f.made_levels);
-    f.height = f.made_height;
-    f.width = f.made_width;
     uint64_t kind = below(60);
     if (kind == 0 || kind == 2) /* height, width or both are bad */
-        f.height = bad_sides[below(sizeof bad_sides / sizeof *bad_sides)];
+        f->height = bad_sides[below(sizeof bad_sides / sizeof *bad_sides)];
     if (kind == 1 || kind == 2)
-        f.width = bad_sides[below(sizeof bad_sides / sizeof *bad_sides)];
+        f->width = bad_sides[below(sizeof bad_sides / sizeof *bad_sides)];
     if (kind == 3) { /* each for the other: the slices are as long as they must be */
-        f.height = f.made_width;
-        f.width = f.made_height;
+        f->height = f->made_width;
+        f->width = f->made_height;
     }
     if (kind == 4)
-        f.height = large_side();
+        f->height = large_side();
     if (kind == 5)
-        f.width = large_side();
-    f.levels = f.made_levels;
+        f->width = large_side();
+    size_t most = made_depth(f), other = most_levels(f->made_height < f->made_width ? f->made_width : f->made_height);
     if (once_in(25))
-        f.levels = bad_levels[below(sizeof bad_levels / sizeof *bad_levels)];
+        f->levels = bad_levels[below(sizeof bad_levels / sizeof *bad_levels)];
     else if (once_in(25)) /* too many for the smaller of the two, though the larger may allow them */
-        f.levels = most + 1 + below(other - most + 1);
+        f->levels = most + 1 + below(other - most + 1);
+}
+
+static struct frame make_frame(void)
+{
+    struct frame f = good_frame();
+    spoil_frame(&f);
     return f;
+}
+
+/* Two strips to join, most often alike. Now and then they are as wide as may be, or wider; or differ in height, in width, in levels, or in all; or
+   one or both are called otherwise than they are made. */
+static void make_pair(struct frame *left, struct frame *right)
+{
+    *left = good_frame();
+    if (once_in(24)) {
+        left->made_width = once_in(3) ? 512 : 256;
+        left->made_height = small_side();
+        left->made_levels = 1 + below(made_depth(left));
+        settle_frame(left);
+    }
+    *right = *left;
+    switch (below(48)) {
+    case 0: *right = good_frame(); break;
+    case 1: right->made_height = large_side(); break;
+    case 2: right->made_width = large_side(); break;
+    case 3:
+        right->made_height = left->made_width;
+        right->made_width = left->made_height;
+        break;
+    case 4: right->made_levels = 1 + below(made_depth(left)); break;
+    default: break;
+    }
+    if (right->made_levels > made_depth(right))
+        right->made_levels = made_depth(right);
+    settle_frame(right);
+    if (once_in(3)) {
+        spoil_frame(left);
+        if (once_in(4)) { /* both in the same way */
+            right->height = left->height;
+            right->width = left->width;
+            right->levels = left->levels;
+        }
+    } else if (once_in(2))
+        spoil_frame(right);
 }
 
 static void count_strip(struct tally *t, struct frame f)
@@ -297,13 +353,19 @@ static void fill_samples(uint16_t *p, size_t n)
         p[below(n)] = (uint16_t)(once_in(2) ? 4096 : 4096 + below(61440));
 }
 
+/* Now and then a covering that there is not. */
+static void spoil_coverings(uint8_t *p, size_t n)
+{
+    if (n > 0 && once_in(30))
+        p[below(n)] = (uint8_t)(once_in(3) ? 0 : 118 + below(138));
+}
+
 static void fill_coverings(uint8_t *p, size_t n)
 {
     uint64_t range = 1 + below(117);
     for (size_t i = 0; i < n; i++)
         p[i] = (uint8_t)(1 + below(range));
-    if (n > 0 && once_in(30))
-        p[below(n)] = (uint8_t)(once_in(3) ? 0 : 118 + below(138));
+    spoil_coverings(p, n);
 }
 
 /* The length of a good list: 1, about 16, nearly all, all 117, or any. */
@@ -383,21 +445,36 @@ static int lists_all(const struct slice *list)
     return list->len == 117;
 }
 
+/* The plane and the coverings of a random image. */
+static void fill_real(int64_t *p, uint8_t *coverings, struct frame f)
+{
+    uint16_t *samples = malloc(f.area * sizeof *samples);
+    int64_t *scratch = malloc(f.area * sizeof *scratch);
+    uint64_t range = 1 + below(4096);
+    for (size_t i = 0; i < f.area; i++)
+        samples[i] = (uint16_t)below(range);
+    if (base_decompose(BASE_STRAIGHT, f.made_height, f.made_width, f.made_levels, samples, f.area, p, f.area, coverings, f.blocks, scratch, f.area)
+        != 0)
+        abort();
+    free(samples);
+    free(scratch);
+}
+
+/* Now and then an entry out of range. */
+static void spoil_plane(int64_t *p, size_t n)
+{
+    static const int64_t bad[] = { INT64_MIN, INT64_MAX, -1, INT64_MIN + 1, 8190, 8191, -8190, -8191, 16380, 16381, 32760, 32761, -32761, 268369920,
+                                   268369921, (int64_t)1 << 32 };
+    if (n > 0 && once_in(25))
+        p[below(n)] = bad[below(sizeof bad / sizeof *bad)];
+}
+
 /* A plane: of a real image, or random entries up to their ranges; now and then an entry out of range. */
 static void fill_plane(int64_t *p, size_t n, struct frame f)
 {
     if (n == f.area && once_in(2)) {
-        uint16_t *samples = malloc(f.area * sizeof *samples);
-        int64_t *scratch = malloc(f.area * sizeof *scratch);
         uint8_t *coverings = malloc(f.blocks);
-        uint64_t range = 1 + below(4096);
-        for (size_t i = 0; i < f.area; i++)
-            samples[i] = (uint16_t)below(range);
-        if (base_decompose(BASE_STRAIGHT, f.made_height, f.made_width, f.made_levels, samples, f.area, p, f.area, coverings, f.blocks, scratch,
-                           f.area) != 0)
-            abort();
-        free(samples);
-        free(scratch);
+        fill_real(p, coverings, f);
         free(coverings);
     } else {
         uint64_t kind = below(4);
@@ -417,11 +494,29 @@ static void fill_plane(int64_t *p, size_t n, struct frame f)
                 p[i] = low ? (int64_t)below(9) : (int64_t)below(9) - 4;
         }
     }
-    if (n > 0 && once_in(25)) {
-        static const int64_t bad[] = { INT64_MIN, INT64_MAX, -1, INT64_MIN + 1, 8190, 8191, -8190, -8191, 16380, 16381, 32760, 32761, -32761, 268369920,
-                                       268369921, (int64_t)1 << 32 };
-        p[below(n)] = bad[below(sizeof bad / sizeof *bad)];
+    spoil_plane(p, n);
+}
+
+/* A strip: a real image, whole, kept at a quota or cut by a threshold; or any plane with any coverings. */
+static void fill_strip(const struct slice *plane, const struct slice *coverings, struct frame f)
+{
+    size_t left;
+    uint32_t n = 0;
+    uint64_t kind = below(6);
+    if (kind < 2 || plane->len != f.area || coverings->len != f.blocks) {
+        fill_plane(plane->base, plane->len, f);
+        fill_coverings(coverings->base, coverings->len);
+        return;
     }
+    fill_real(plane->base, coverings->base, f);
+    if (kind == 2)
+        n = base_threshold(f.made_height, f.made_width, f.made_levels, plane->base, f.area, below(400), &left);
+    if (kind == 3)
+        n = base_keep(f.made_height, f.made_width, f.made_levels, plane->base, f.area, below(f.area - (f.area >> 2 * f.made_levels) + 1), &left);
+    if (n != 0)
+        abort();
+    spoil_plane(plane->base, plane->len);
+    spoil_coverings(coverings->base, coverings->len);
 }
 
 /* ---- Texts ---- */
@@ -719,6 +814,60 @@ static void call_threshold(struct tally *t)
     compare(t, a, base_threshold(f.height, f.width, f.levels, plane->base, plane->len, threshold, left->base));
 }
 
+/* What a joined strip restores to: the numerators of the left one, then those of the right one; and so for the samples. */
+static void restores_to_both(struct frame f, const struct slice *left, const struct slice *left_coverings, const struct slice *right,
+                             const struct slice *right_coverings, const struct slice *plane, const struct slice *coverings)
+{
+    size_t area = left->len, n = plane->len;
+    int64_t *apart = malloc(n * sizeof *apart), *joined = malloc(n * sizeof *joined), *scratch = malloc(n * sizeof *scratch);
+    uint16_t *samples_apart = malloc(n * sizeof *samples_apart), *samples_joined = malloc(n * sizeof *samples_joined);
+    uint32_t a = tetrolet_restore(f.height, f.width, f.levels, left->lib, left->len, left_coverings->lib, left_coverings->len, apart, area,
+                                  samples_apart, area, scratch, area);
+    a |= tetrolet_restore(f.height, f.width, f.levels, right->lib, right->len, right_coverings->lib, right_coverings->len, apart + area, area,
+                          samples_apart + area, area, scratch, area);
+    a |= tetrolet_restore(f.height, 2 * f.width, f.levels, plane->lib, plane->len, coverings->lib, coverings->len, joined, n, samples_joined, n,
+                          scratch, n);
+    if (a != 0)
+        differ("a joined strip, or a part of it, is not restored");
+    if (memcmp(apart, joined, n * sizeof *apart) != 0)
+        differ("the numerators of a joined strip are not those of its parts");
+    if (memcmp(samples_apart, samples_joined, n * sizeof *samples_apart) != 0)
+        differ("the samples of a joined strip are not those of its parts");
+    free(apart);
+    free(joined);
+    free(scratch);
+    free(samples_apart);
+    free(samples_joined);
+}
+
+static void call_join(struct tally *t)
+{
+    struct frame f, g;
+    make_pair(&f, &g);
+    count_strip(t, f);
+    struct slice *left = lend(length_near(f.area), 8), *left_coverings = lend(length_near(f.blocks), 1), *right = lend(length_near(g.area), 8),
+                 *right_coverings = lend(length_near(g.blocks), 1), *plane = lend(length_near(2 * f.area), 8),
+                 *coverings = lend(length_near(2 * f.blocks), 1);
+    fill_strip(left, left_coverings, f);
+    fill_strip(right, right_coverings, g);
+    settle();
+    uint32_t a = tetrolet_join(f.height, f.width, f.levels, left->lib, left->len, left_coverings->lib, left_coverings->len, g.height, g.width, g.levels,
+                               right->lib, right->len, right_coverings->lib, right_coverings->len, plane->lib, plane->len, coverings->lib,
+                               coverings->len);
+    unchanged(left);
+    unchanged(left_coverings);
+    unchanged(right);
+    unchanged(right_coverings);
+    compare_plain(t, a, plain_join(f.height, f.width, f.levels, left->plain, left->len, left_coverings->plain, left_coverings->len, g.height, g.width,
+                                   g.levels, right->plain, right->len, right_coverings->plain, right_coverings->len, plane->plain, plane->len,
+                                   coverings->plain, coverings->len));
+    compare(t, a, base_join((int)below(2), f.height, f.width, f.levels, left->base, left->len, left_coverings->base, left_coverings->len, g.height, g.width, g.levels,
+                            right->base, right->len, right_coverings->base, right_coverings->len, plane->base, plane->len, coverings->base,
+                            coverings->len));
+    if (a == 0)
+        restores_to_both(f, left, left_coverings, right, right_coverings, plane, coverings);
+}
+
 /* A buffer for a text of n bytes: of that length, one more, one less, or any. */
 static struct slice *lend_buffer(size_t n)
 {
@@ -867,6 +1016,7 @@ int main(int argc, char **argv)
         { call_restore_listed, { "restore listed", 0, { 0 }, 0, 0, 0 } },
         { call_keep, { "keep", 0, { 0 }, 0, 0, 0 } },
         { call_threshold, { "threshold", 0, { 0 }, 0, 0, 0 } },
+        { call_join, { "join", 0, { 0 }, 0, 0, 0 } },
         { call_write, { "write", 0, { 0 }, 0, 0, 0 } },
         { call_read, { "read", 0, { 0 }, 0, 0, 0 } },
         { call_usage, { "usage", 0, { 0 }, 0, 0, 0 } },

@@ -26,6 +26,10 @@ uint32_t plain_restore_listed(const uint8_t *words, size_t words_len, size_t hei
                               size_t scratch_len);
 uint32_t plain_keep(size_t height, size_t width, size_t levels, int64_t *plane, size_t plane_len, uint64_t quota, size_t *left);
 uint32_t plain_threshold(size_t height, size_t width, size_t levels, int64_t *plane, size_t plane_len, uint64_t limit, size_t *left);
+uint32_t plain_join(size_t left_height, size_t left_width, size_t left_levels, const int64_t *left_plane, size_t left_plane_len,
+                    const uint8_t *left_coverings, size_t left_coverings_len, size_t right_height, size_t right_width, size_t right_levels,
+                    const int64_t *right_plane, size_t right_plane_len, const uint8_t *right_coverings, size_t right_coverings_len,
+                    int64_t *plane, size_t plane_len, uint8_t *coverings, size_t coverings_len);
 uint32_t plain_write(size_t height, size_t width, size_t levels, const int64_t *plane, size_t plane_len, const uint8_t *coverings,
                      size_t coverings_len, uint8_t *buffer, size_t buffer_len, size_t *length);
 uint32_t plain_read(const uint8_t *text, size_t text_len, int64_t *plane, size_t plane_len, uint8_t *coverings, size_t coverings_len,

@@ -10,6 +10,8 @@ ghost use Rattle.c_api.specs.Told.{Told};
 ghost use Rattle.coverings.specs.Entry.{WordAnswered};
 ghost use Rattle.coder.specs.Entries.{Decomposed, DecomposedWithin, Restored};
 ghost use Rattle.listing.specs.Entries.{DecomposedListed, RestoredListed};
+ghost use Rattle.strips.specs.Strip.{stripOf};
+ghost use Rattle.joining.specs.Entries.{Joined};
 ghost use Rattle.generator.specs.Generator.{Generated};
 use refusals::Counted;
 use sheet::Reading;
@@ -141,6 +143,40 @@ pub extern "C" fn tetrolet_restore_listed(
         numerators,
         samples,
         scratch,
+    ))
+}
+
+// Joins a left and a right strip into one, twice as wide.
+#[no_mangle]
+pub extern "C" fn tetrolet_join(
+    left_height: usize,
+    left_width: usize,
+    left_levels: usize,
+    left_plane: &[i64],
+    left_coverings: &[u8],
+    right_height: usize,
+    right_width: usize,
+    right_levels: usize,
+    right_plane: &[i64],
+    right_coverings: &[u8],
+    plane: &mut [i64],
+    coverings: &mut [u8],
+) -> u32
+    ensures { λ n. ⌜ Joined (stripOf «left_height» «left_width» «left_levels» (now («left_plane» .entry)) (now («left_coverings» .entry))) (stripOf «right_height» «right_width» «right_levels» (now («right_plane» .entry)) (now («right_coverings» .entry))) (now (plane .entry)) (now (plane .exit)) (now (coverings .entry)) (now (coverings .exit)) n ⌝ }
+{
+    refusals::code(joining::join(
+        left_height,
+        left_width,
+        left_levels,
+        left_plane,
+        left_coverings,
+        right_height,
+        right_width,
+        right_levels,
+        right_plane,
+        right_coverings,
+        plane,
+        coverings,
     ))
 }
 

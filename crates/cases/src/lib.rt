@@ -4,4 +4,5 @@ pub mod answers;
 pub mod inputs;
 pub mod lists;
 pub mod safe;
+pub mod strips;
 pub mod tally;

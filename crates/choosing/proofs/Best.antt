@@ -4,6 +4,7 @@ use mathlib.Core.Bool.{Bool, true, false, cond}
 use mathlib.Core.List.{List}
 use Prim.Native.Nat.{ℕ, suc, _+_, _-_, _≤_, _<_}
 use native.Mathlib.Omega.{arith}
+use borrow.Author.Tests.{lt-ltb, le-ltb, eq-eqb, ne-eqb}
 use lib.IntN.{ℤ}
 use lib.ListN.{getD}
 use Rattle.coverings.specs.Words.{wordOf}
@@ -12,9 +13,24 @@ use Rattle.choosing.specs.declared.least.Candidate.{Candidate}
 use Rattle.block.specs.Block.{costOf, shapesOf, countIn, beats, pickTo, pick}
 use Rattle.kernel.specs.Kernel.{at}
 use Rattle.counts.specs.Counts.{countsOf}
-use Rattle.choosing.specs.Choice.{spreads, costFrom, precedes}
-use Rattle.choosing.proofs.Placements.{cost-from}
+use Rattle.costing.specs.Costs.{spreads, costFrom}
+use Rattle.choosing.specs.Order.{precedes}
+use Rattle.costing.proofs.Placements.{cost-from}
 use Rattle.counts.proofs.Counts.{count-at}
+
+-- ---- the order of candidates
+module _ (cost count least often : ℕ) where
+  pub cheaper : cost < least → precedes cost count least often ≡ true
+  cheaper h = simp (lt-ltb cost least h)
+
+  pub dearer : least < cost → precedes cost count least often ≡ false
+  dearer h = simp (le-ltb cost least (omega arith), ne-eqb cost least (λ e. omega arith))
+
+  pub more-often : cost ≡ least → often < count → precedes cost count least often ≡ true
+  more-often e h = simp (le-ltb cost least (omega arith), eq-eqb cost least e, lt-ltb often count h)
+
+  pub less-often : cost ≡ least → count ≤ often → precedes cost count least often ≡ false
+  less-often e h = simp (le-ltb cost least (omega arith), eq-eqb cost least e, le-ltb often count h)
 
 -- a candidate has the cost and the count of its covering
 pub record Rated (costs counts : List ℕ) (n : ℕ) (r : Candidate) : Type 0 where

@@ -23,10 +23,10 @@ use Rattle.terms.proofs.All.{only}
 use Rattle.kernel.specs.Kernel.{at}
 use Rattle.counts.specs.Counts.{countsOf}
 use Rattle.counts.proofs.Counts.{count-at}
-use Rattle.choosing.specs.Choice.{spreads, placementOf, costFrom, Low}
+use Rattle.costing.specs.Costs.{spreads, placementOf, costFrom, Low}
 use Rattle.choosing.specs.Leading.{InRow, Holds, Priced, Counted, Cheapest, standsAt, First}
 use Rattle.choosing.specs.declared.near.Leader.{Leader}
-use Rattle.choosing.proofs.Placements.{placement-below, cost-from}
+use Rattle.costing.proofs.Placements.{placement-below, cost-from}
 
 -- ---- the costs, and the least of them
 

@@ -1,2 +1,2 @@
-pub mod Choice
 pub mod Leading
+pub mod Order

@@ -9,8 +9,8 @@ ghost use Rattle.block.specs.Block.{pick};
 ghost use Rattle.tables.specs.Tables.{placementTable, fourTable};
 ghost use Rattle.kernel.specs.Kernel.{at, Within};
 ghost use Rattle.counts.specs.Counts.{countsOf};
-ghost use Rattle.choosing.specs.Choice.{costFrom, Low, precedes};
-use crate::costs;
+ghost use Rattle.costing.specs.Costs.{costFrom, Low};
+ghost use Rattle.choosing.specs.Order.{precedes};
 use counts::Usage;
 
 // A covering, its cost, and how often it was chosen earlier.
@@ -28,7 +28,7 @@ fn rated(costs: &[u64; 89], fours: &[u8; 468], counts: &[u32; 117], covering: u8
     let k = covering as usize - 1;
     Candidate {
         covering: covering,
-        cost: costs::covering_cost(costs, fours, covering),
+        cost: costing::covering_cost(costs, fours, covering),
         count: counts[k],
     }
 }
@@ -55,7 +55,7 @@ pub fn choose_least(placements: &[u8; 356], fours: &[u8; 468], v: [i64; 16], usa
     requires { ⌜ (now placements ≡ placementTable) × (now fours ≡ fourTable) × Within (2 ^ 40) v ⌝ }
     ensures { λ r. ⌜ Number r × ((earlier : List ℕ) → usage .counts ≡ countsOf earlier → r ≡ pick earlier (at v)) ⌝ }
 {
-    let costs = costs::placement_costs(placements, &v);
+    let costs = costing::placement_costs(placements, &v);
     let counts = usage.counts;
     let mut best = rated(&costs, fours, &counts, 1);
     let mut n: u8 = 2;

@@ -1,6 +1,5 @@
-// The choice of a covering for one block in code: what the coverings cost, the covering of least cost, the choice with a tolerance, and the choice out of a
-// list. The definitions that it meets are those of `block` and `terms`; specs/ has what the inner functions compute.
-pub mod costs;
+// The choice of a covering for one block in code: the covering of least cost, the choice with a tolerance, and the choice out of a list, by the costs of
+// `costing`. The definitions that it meets are those of `block` and `terms`; specs/ has what the inner functions compute.
 pub mod least;
 pub mod listed;
 pub mod near;
@@ -14,7 +13,7 @@ ghost use Rattle.terms.specs.Terms.{allNumbers, among, isList, pickTerms};
 ghost use Rattle.tables.specs.Tables.{placementTable, fourTable};
 ghost use Rattle.kernel.specs.Kernel.{at, Within};
 ghost use Rattle.counts.specs.Counts.{countsOf};
-ghost use Rattle.choosing.specs.Choice.{Needed};
+ghost use Rattle.costing.specs.Costs.{Needed};
 use counts::Usage;
 
 // All coverings, 1 to 117: what a caller without a list lends.

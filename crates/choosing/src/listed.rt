@@ -10,9 +10,8 @@ ghost use Rattle.terms.specs.Terms.{among, isList, pickTerms};
 ghost use Rattle.tables.specs.Tables.{placementTable, fourTable};
 ghost use Rattle.kernel.specs.Kernel.{at, Within};
 ghost use Rattle.counts.specs.Counts.{countsOf};
-ghost use Rattle.choosing.specs.Choice.{Needed, costFrom, Low};
+ghost use Rattle.costing.specs.Costs.{Needed, costFrom, Low};
 ghost use Rattle.choosing.specs.Leading.{InRow, Priced, CountedIn, Cheapest, standsAt, First};
-use crate::costs;
 use crate::near;
 use crate::near::Leader;
 use counts::Usage;
@@ -22,11 +21,11 @@ fn put_listed(costs: &[u64; 89], fours: &[u8; 468], list: &[u8], all: &mut [u64;
     requires { ⌜ (now fours ≡ fourTable) × Low (now costs) × T (isList (now list)) × (length (now all) ≡ 117) ⌝ }
     ensures { λ r. ⌜ Priced (length (now (list .entry))) (λ n. costFrom (now (costs .entry)) (getD (now (list .entry)) (n - 1) 0)) (now (all .exit)) × ((cost : ℕ → ℕ) → Priced (length (now (list .entry))) cost (now (all .exit)) → Cheapest (length (now (list .entry))) cost r) ⌝ }
 {
-    let mut least = costs::covering_cost(costs, fours, list[0]);
+    let mut least = costing::covering_cost(costs, fours, list[0]);
     all[0] = least;
     let mut k: usize = 1;
     while k < list.len() {
-        let cost = costs::covering_cost(costs, fours, list[k]);
+        let cost = costing::covering_cost(costs, fours, list[k]);
         all[k] = cost;
         least = near::lesser(cost, least);
         k += 1;
@@ -78,7 +77,7 @@ pub fn choose_listed(
     requires { ⌜ (now placements ≡ placementTable) × (now fours ≡ fourTable) × Within (2 ^ 40) v × (slack ≤ 2 ^ 40) × T (isList (now list)) × Needed (now list) (now needed) ⌝ }
     ensures { λ r. ⌜ Number r × ((earlier : List ℕ) → usage .counts ≡ countsOf earlier → r ≡ pickTerms (among slack (now (list .entry))) earlier (at v)) ⌝ }
 {
-    let costs = costs::needed_costs(placements, needed, &v);
+    let costs = costing::needed_costs(placements, needed, &v);
     let counts = usage.counts;
     let mut all = [0u64; 117];
     let least = put_listed(&costs, fours, list, &mut all);

@@ -10,9 +10,8 @@ ghost use Rattle.terms.specs.Terms.{within, pickTerms};
 ghost use Rattle.tables.specs.Tables.{placementTable, fourTable};
 ghost use Rattle.kernel.specs.Kernel.{at, Within};
 ghost use Rattle.counts.specs.Counts.{countsOf};
-ghost use Rattle.choosing.specs.Choice.{costFrom, Low};
+ghost use Rattle.costing.specs.Costs.{costFrom, Low};
 ghost use Rattle.choosing.specs.Leading.{Priced, Counted, Cheapest, standsAt, First};
-use crate::costs;
 use counts::Usage;
 
 // The covering that leads, 0 where none does yet, and how it stands.
@@ -36,11 +35,11 @@ fn put_costs(costs: &[u64; 89], fours: &[u8; 468], all: &mut [u64; 117]) -> u64
     requires { ⌜ (now fours ≡ fourTable) × Low (now costs) × (length (now all) ≡ 117) ⌝ }
     ensures { λ r. ⌜ Priced 117 (costFrom (now (costs .entry))) (now (all .exit)) × ((cost : ℕ → ℕ) → Priced 117 cost (now (all .exit)) → Cheapest 117 cost r) ⌝ }
 {
-    let mut least = costs::covering_cost(costs, fours, 1);
+    let mut least = costing::covering_cost(costs, fours, 1);
     all[0] = least;
     let mut k: usize = 1;
     while k < 117 {
-        let cost = costs::covering_cost(costs, fours, k as u8 + 1);
+        let cost = costing::covering_cost(costs, fours, k as u8 + 1);
         all[k] = cost;
         least = lesser(cost, least);
         k += 1;
@@ -114,7 +113,7 @@ pub fn choose_near(
     requires { ⌜ (now placements ≡ placementTable) × (now fours ≡ fourTable) × Within (2 ^ 40) v × (slack ≤ 2 ^ 40) ⌝ }
     ensures { λ r. ⌜ Number r × ((earlier : List ℕ) → usage .counts ≡ countsOf earlier → r ≡ pickTerms (within slack) earlier (at v)) ⌝ }
 {
-    let costs = costs::placement_costs(placements, &v);
+    let costs = costing::placement_costs(placements, &v);
     let counts = usage.counts;
     let mut all = [0u64; 117];
     let least = put_costs(&costs, fours, &mut all);

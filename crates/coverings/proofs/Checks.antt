@@ -1,5 +1,5 @@
 -- The test of a covering's number as a fact, for one and for each of a list; and the checks of the entry `word_of`, by what its tests find. Assumes nothing.
-use mathlib.Core.Path.{_≡_, refl, sym, ap, _∙_, subst}
+use mathlib.Core.Path.{_≡_, refl, sym, ap, _∙_, subst, subst⁻¹}
 use mathlib.Core.Bool.{Bool, true, false, not, _&&_}
 use mathlib.Core.List.{List}
 use Prim.Native.Nat.{ℕ, suc, _<_, _≤_}
@@ -9,7 +9,7 @@ use borrow.Author.Tests.{eq-eqb, ne-eqb, le-leb, lt-leb, leb-true}
 use lib.Dec.{T, eqb, leb}
 use lib.ListN.{length, getD}
 use Rattle.integers.specs.Lists.{every}
-use Rattle.integers.proofs.Tests.{both-true, is-true, every-at}
+use Rattle.integers.proofs.Tests.{both-true, is-true, every-at, every-of}
 use Rattle.refusals.specs.Refusal.{numberOf}
 use Rattle.refusals.specs.declared.Refusal.{Refusal}
 use Rattle.refusals.proofs.After.{unchanged}
@@ -37,6 +37,9 @@ is-number n e = let q = both-true (leb 1 n) (leb n 117) e in (leb-true 1 n (q .0
 
 pub number-at : (cs : List ℕ) (i : ℕ) → every isNumber cs ≡ true → i < length cs → Number (getD cs i 0)
 number-at cs i e h = is-number (getD cs i 0) (is-true (isNumber (getD cs i 0)) (every-at isNumber cs 0 (subst T (sym e) tt) i h))
+
+pub every-number : (cs : List ℕ) → ((i : ℕ) → i < length cs → Number (getD cs i 0)) → T (every isNumber cs)
+every-number cs ns = every-of isNumber cs 0 (λ i l. subst⁻¹ T (number-yes (getD cs i 0) (ns i l)) tt)
 
 -- each return of the entry
 module _ (covering : ℕ) (old : List ℕ) where

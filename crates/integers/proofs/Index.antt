@@ -1,5 +1,5 @@
 -- Flat indices: the entry in row y, column x of an image of height h is at x * h + y. Assumes nothing.
-use mathlib.Core.Path.{_≡_, ap, _∙_}
+use mathlib.Core.Path.{_≡_, sym, ap, _∙_}
 use Prim.Native.Nat.{ℕ, zero, suc, _+_, _*_, _/_, _%_, _<_}
 use native.Mathlib.Omega.{arith}
 use native.Mathlib.Nat.{add-zero, mul-add-div-right, mul-add-mod-self-right, mod-eq-of-lt, div-eq-of-lt, mul-le-mul-right, mod-lt, div-lt-iff-lt-mul}
@@ -18,3 +18,10 @@ column-row x y h l = mul-add-mod-self-right x h y ∙ mod-eq-of-lt l
 
 pub column-col : (x y h : ℕ) → y < h → (x * h + y) / h ≡ x
 column-col x y h l = mul-add-div-right (omega arith) x y ∙ ap (λ (z : ℕ). x + z) (div-eq-of-lt l) ∙ add-zero x
+
+-- which tells its row and its column
+pub same-place : (h y x v u : ℕ) → y < h → v < h → x * h + y ≡ u * h + v → (y ≡ v) × (x ≡ u)
+same-place h y x v u k l e = (
+  sym (column-row x y h k) ∙ ap (λ (n : ℕ). n % h) e ∙ column-row u v h l,
+  sym (column-col x y h k) ∙ ap (λ (n : ℕ). n / h) e ∙ column-col u v h l,
+)

@@ -24,6 +24,20 @@ pub struct Plane {
     pub covering: u8,
 }
 
+// A plane of zeros in slices of these lengths, each block with covering 1.
+pub fn zeros(height: usize, width: usize, levels: usize, plane: usize, coverings: usize) -> Plane {
+    Plane {
+        height: height,
+        width: width,
+        levels: levels,
+        plane: plane,
+        coverings: coverings,
+        at: 0,
+        value: 0,
+        covering: 1,
+    }
+}
+
 pub fn plane_of(k: Plane) -> [i64; 65] {
     let mut plane = [0i64; 65];
     put_value(&mut plane, k.at, k.value);

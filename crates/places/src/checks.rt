@@ -1,16 +1,14 @@
-// The checks of heights, widths, levels, lengths, coverings and ranges, as tests.
+// The checks of heights, widths, levels, lengths, coverings and the range of one entry, as tests.
 ghost use mathlib.Core.Path.{_≡_};
-ghost use mathlib.Core.Bool.{true, _&&_};
+ghost use mathlib.Core.Bool.{_&&_};
 ghost use Prim.Native.Nat.{ℕ, suc, _*_, _^_, _<_, _≤_};
 ghost use lib.Dec.{leb};
-ghost use lib.ListN.{length};
 ghost use Rattle.integers.specs.Lists.{every};
 ghost use Rattle.refusals.specs.Refusal.{answerOf, afterCall};
 ghost use Rattle.coverings.specs.Entry.{isNumber};
 ghost use Rattle.pyramid.specs.Plane.{allBlocks};
 ghost use Rattle.pyramid.specs.Sides.{isSide, isSides, isDepth};
-ghost use Rattle.pyramid.specs.Slices.{imageOf};
-ghost use Rattle.pyramid.specs.Ranges.{fitsRange, inRange};
+ghost use Rattle.pyramid.specs.Ranges.{fitsRange};
 ghost use Rattle.places.specs.Sizes.{sizeRefusal};
 ghost use Rattle.places.specs.Walk.{Inside, entryOf};
 ghost use Rattle.places.specs.Walk.{indexIn};
@@ -179,22 +177,4 @@ pub fn index_of(k: Walk, height: u32, width: u32) -> usize
     let down = down_of(k, height, width);
     let across = across_of(k, height, width);
     (across * height + down) as usize
-}
-
-// Whether each entry of a plane is in its range.
-pub fn in_range(plane: &[i64], height: u32, width: u32, levels: u32) -> bool
-    requires { ⌜ (isSides height width ≡ true) × (isDepth levels height width ≡ true) ⌝ }
-    requires { ⌜ length (now plane) ≡ width * height ⌝ }
-    ensures { λ r. ⌜ r ≡ inRange levels height width (imageOf height (now (plane .entry))) ⌝ }
-{
-    let mut k = crate::walk::first_entry(height, width, levels);
-    while 0 < k.left {
-        let i = index_of(k, height, width);
-        let v = plane[i];
-        if !fits_range(levels, k, v) {
-            return false;
-        }
-        k = crate::walk::step(k, height, width);
-    }
-    true
 }

@@ -173,6 +173,37 @@ pub extern "C" fn plain_threshold(
 }
 
 #[no_mangle]
+pub extern "C" fn plain_join(
+    left_height: usize,
+    left_width: usize,
+    left_levels: usize,
+    left_plane: &[i64],
+    left_coverings: &[u8],
+    right_height: usize,
+    right_width: usize,
+    right_levels: usize,
+    right_plane: &[i64],
+    right_coverings: &[u8],
+    plane: &mut [i64],
+    coverings: &mut [u8],
+) -> u32 {
+    plain::strips::join(
+        left_height,
+        left_width,
+        left_levels,
+        left_plane,
+        left_coverings,
+        right_height,
+        right_width,
+        right_levels,
+        right_plane,
+        right_coverings,
+        plane,
+        coverings,
+    )
+}
+
+#[no_mangle]
 pub extern "C" fn plain_write(
     height: usize,
     width: usize,

@@ -44,6 +44,14 @@ fn is_side(side: usize) -> bool {
     side == 512
 }
 
+// Check 1.
+pub fn is_extent(extent: Extent) -> bool {
+    if !is_side(extent.height) {
+        return false;
+    }
+    is_side(extent.width)
+}
+
 fn smaller(extent: Extent) -> usize {
     if extent.height < extent.width {
         extent.height
@@ -52,8 +60,8 @@ fn smaller(extent: Extent) -> usize {
     }
 }
 
-// The image that the deepest level splits is at least 4 by 4: 2^(levels + 1) is at most the smaller of height and width.
-fn is_depth(extent: Extent, levels: usize) -> bool {
+// Check 2. The image that the deepest level splits is at least 4 by 4: 2^(levels + 1) is at most the smaller of height and width.
+pub fn is_depth(extent: Extent, levels: usize) -> bool {
     if levels < 1 {
         return false;
     }
@@ -65,10 +73,7 @@ fn is_depth(extent: Extent, levels: usize) -> bool {
 
 // Checks 1 and 2.
 pub fn size_refusal(extent: Extent, levels: usize) -> u32 {
-    if !is_side(extent.height) {
-        return 1;
-    }
-    if !is_side(extent.width) {
+    if !is_extent(extent) {
         return 1;
     }
     if !is_depth(extent, levels) {
@@ -109,16 +114,21 @@ pub fn all_blocks(extent: Extent, levels: usize) -> usize {
     blocks_before(extent, plus(levels, 1))
 }
 
-// Checks 1 to 3, for a plane and coverings of these lengths.
+// Check 3, for a plane and coverings of these lengths.
+pub fn is_frame(extent: Extent, levels: usize, plane: usize, coverings: usize) -> bool {
+    if plane != area(extent) {
+        return false;
+    }
+    coverings == all_blocks(extent, levels)
+}
+
+// Checks 1 to 3.
 pub fn lengths(extent: Extent, levels: usize, plane: usize, coverings: usize) -> u32 {
     let bad = size_refusal(extent, levels);
     if bad != 0 {
         return bad;
     }
-    if plane != area(extent) {
-        return 3;
-    }
-    if coverings != all_blocks(extent, levels) {
+    if !is_frame(extent, levels, plane, coverings) {
         return 3;
     }
     0
@@ -250,6 +260,15 @@ pub fn block_in_level(extent: Extent, level: usize, n: usize) -> Spot {
         row: rest(n, m.height),
         col: over(n, m.height),
     }
+}
+
+// The number in covering order of the block at this place.
+pub fn block_number(extent: Extent, p: Spot) -> usize {
+    let m = band_of(extent, plus(p.level, 1));
+    plus(
+        blocks_before(extent, p.level),
+        plus(times(p.col, m.height), p.row),
+    )
 }
 
 // The largest size of an entry of the band.

@@ -8,20 +8,7 @@ use pairs::answers::tell_one;
 use pairs::planes;
 use pairs::planes::Lengths;
 use pairs::planes::Plane;
-
-// A plane of zeros in slices of these lengths, each block with covering 1.
-pub fn zeros(height: usize, width: usize, levels: usize, plane: usize, coverings: usize) -> Plane {
-    Plane {
-        height: height,
-        width: width,
-        levels: levels,
-        plane: plane,
-        coverings: coverings,
-        at: 0,
-        value: 0,
-        covering: 1,
-    }
-}
+use pairs::planes::zeros;
 
 fn put_frame(k: Plane) {
     put(b"height ", k.height as u64);

@@ -1,5 +1,4 @@
 // Decomposing and restoring with a list of coverings, by the coder and by the plain second implementation: what a list lets a block take, and its limits.
-use crate::frames::zeros;
 use crate::pictures::List;
 use crate::pictures::Picture;
 use crate::pictures::Way;
@@ -21,6 +20,7 @@ use pairs::left::Left;
 use pairs::left::pair;
 use pairs::planes::Plane;
 use pairs::planes::plane_of;
+use pairs::planes::zeros;
 
 fn put_list(l: List) {
     put(b"listed ", l.length as u64);

@@ -19,6 +19,8 @@ pub enum Refusal {
     Bench, // 12, bench
     Tolerance, // 13, tolerance
     Listing, // 14, list
+    Mismatch, // 15, mismatch
+    JoinedWidth, // 16, joined width
 }
 
 // The answer of an entry that gives nothing but what it leaves in the slices.
@@ -52,6 +54,8 @@ pub fn number(r: Refusal) -> u8
         Refusal::Bench => 12,
         Refusal::Tolerance => 13,
         Refusal::Listing => 14,
+        Refusal::Mismatch => 15,
+        Refusal::JoinedWidth => 16,
     }
 }
 

@@ -2,8 +2,10 @@
 // of both. A line for each group: its name, how many cases, how many of them both accept, how many of each are strips, whose height is not their width,
 // and whether the two agree everywhere, in the answer and in all that stands in the slices after. `within` decomposes with a tolerance; `within 0` has the
 // coder with tolerance 0 beside the coder without one. `listed` and `restore listed` have a list of coverings; `listed 117` has the coder with all 117 listed
-// beside the coder without a list. Texts and words are compared by `vectors_text`.
+// beside the coder without a list. `join` joins two strips, and counts by the left one; `join flaws` has calls of which most are refused. Texts and words are
+// compared by `vectors_text`.
 mod generated;
+mod joins;
 mod marks;
 mod pictures;
 mod planes;
@@ -22,6 +24,8 @@ fn tell_all(words: &[u8]) {
     tell(b"keep", marks::keep_group());
     tell(b"threshold", marks::threshold_group());
     tell(b"test image", generated::group());
+    tell(b"join", joins::group());
+    tell(b"join flaws", joins::flawed_group());
 }
 
 fn main() {

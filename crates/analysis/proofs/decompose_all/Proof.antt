@@ -10,7 +10,7 @@ use lib.ListN.{length, replicate}
 use borrow.Author.Needs.{needs}
 use Rattle.tables.specs.Tables.{placementTable, fourTable, cellTable}
 use Rattle.terms.specs.Terms.{among, isList}
-use Rattle.choosing.specs.Choice.{Needed}
+use Rattle.costing.specs.Costs.{Needed}
 use Rattle.pyramid.specs.Plane.{Chooser, allBlocks}
 use Rattle.analysis.proofs.Bandwise.{blocks-few}
 use Rattle.analysis.proofs.Descend.{Descended, worked-region, worked-room, worked-few, worked-end, descend-start, descend-small, descend-step, descend-covers, allowed-first, allowed-next, allowed-small, levelled-as}

@@ -1,7 +1,7 @@
 -- `choosing::least::better` meets its contract. Assumes nothing.
 use mathlib.Core.Path.{refl}
 use native.Mathlib.Omega.{arith}
-use Rattle.choosing.proofs.Placements.{cheaper, dearer, more-often, less-often}
+use Rattle.choosing.proofs.Best.{cheaper, dearer, more-often, less-often}
 use Rattle.choosing.proofs.least.better.Statement.{statement}
 use Rattle.choosing.proofs.least.better.Tie as tie
 

@@ -7,8 +7,8 @@ use borrow.Author.Needs.{needs}
 use lib.ListN.{getD}
 use Rattle.choosing.specs.declared.least.Candidate.{Candidate}
 use Rattle.tables.specs.Tables.{fourTable}
-use Rattle.choosing.specs.Choice.{costFrom, Low}
-use Rattle.choosing.proofs.Placements.{spreads-low}
+use Rattle.costing.specs.Costs.{costFrom, Low}
+use Rattle.costing.proofs.Placements.{spreads-low}
 use Rattle.choosing.proofs.Best.{Rated, Best, best-first, best-next, best-last}
 use Rattle.choosing.proofs.least.choose_least.Statement.{statement}
 use Rattle.choosing.proofs.least.choose_least.Tie as tie

@@ -7,9 +7,9 @@ use lib.ListN.{length, getD}
 use Rattle.terms.specs.Terms.{costAt}
 use Rattle.terms.proofs.Good.{not-empty, entry}
 use Rattle.kernel.specs.Kernel.{at}
-use Rattle.choosing.specs.Choice.{costFrom, Low}
+use Rattle.costing.specs.Costs.{costFrom, Low}
 use Rattle.choosing.specs.Leading.{InRow}
-use Rattle.choosing.proofs.Placements.{needed-low, needed-price}
+use Rattle.costing.proofs.Placements.{needed-low, needed-price}
 use Rattle.choosing.proofs.Leading.{nth, cost-low, row, chosen-listed}
 use Rattle.choosing.proofs.listed.choose_listed.Statement.{statement}
 use Rattle.choosing.proofs.listed.choose_listed.Tie as tie

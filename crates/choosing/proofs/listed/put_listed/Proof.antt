@@ -8,7 +8,7 @@ use lib.ListN.{length, getD}
 use Rattle.terms.specs.Terms.{isList}
 use Rattle.terms.proofs.Good.{not-empty, entry, short}
 use Rattle.tables.specs.Tables.{fourTable}
-use Rattle.choosing.specs.Choice.{costFrom, Low}
+use Rattle.costing.specs.Costs.{costFrom, Low}
 use Rattle.choosing.proofs.Leading.{Costed, costed-first, costed-next, costed-last, nth, place}
 use Rattle.choosing.proofs.listed.put_listed.Statement.{statement}
 use Rattle.choosing.proofs.listed.put_listed.Tie as tie

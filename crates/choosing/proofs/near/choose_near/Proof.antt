@@ -2,8 +2,8 @@
 use mathlib.Core.Path.{refl}
 use native.Mathlib.Omega.{arith}
 use borrow.Author.Needs.{needs}
-use Rattle.choosing.specs.Choice.{costFrom, Low}
-use Rattle.choosing.proofs.Placements.{spreads-low}
+use Rattle.costing.specs.Costs.{costFrom, Low}
+use Rattle.costing.proofs.Placements.{spreads-low}
 use Rattle.choosing.proofs.Leading.{cost-low, chosen-near}
 use Rattle.choosing.proofs.near.choose_near.Statement.{statement}
 use Rattle.choosing.proofs.near.choose_near.Tie as tie

@@ -5,7 +5,7 @@ use native.Mathlib.Omega.{arith}
 use native.Mathlib.Numerals.{add-one}
 use borrow.Author.Needs.{needs}
 use Rattle.tables.specs.Tables.{fourTable}
-use Rattle.choosing.specs.Choice.{costFrom, Low}
+use Rattle.costing.specs.Costs.{costFrom, Low}
 use Rattle.choosing.proofs.Leading.{Costed, costed-first, costed-next, costed-last}
 use Rattle.choosing.proofs.near.put_costs.Statement.{statement}
 use Rattle.choosing.proofs.near.put_costs.Tie as tie

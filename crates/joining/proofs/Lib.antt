@@ -1,0 +1,5 @@
+pub mod Gates
+pub mod Halves
+pub mod Lists
+pub mod Pairs
+pub mod Together

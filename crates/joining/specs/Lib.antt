@@ -1,0 +1,3 @@
+pub mod Claims
+pub mod Entries
+pub mod Pairs
