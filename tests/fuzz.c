@@ -280,6 +280,13 @@ static void spoil_frame(struct frame *f)
         f->levels = most + 1 + below(other - most + 1);
 }
 
+/* A call that is certainly not the one that the slices are made for. */
+static void misname_frame(struct frame *f)
+{
+    while (f->height == f->made_height && f->width == f->made_width && f->levels == f->made_levels)
+        spoil_frame(f);
+}
+
 static struct frame make_frame(void)
 {
     struct frame f = good_frame();
@@ -313,15 +320,25 @@ static void make_pair(struct frame *left, struct frame *right)
     if (right->made_levels > made_depth(right))
         right->made_levels = made_depth(right);
     settle_frame(right);
-    if (once_in(3)) {
+    switch (below(12)) {
+    case 0: /* both in the same way */
         spoil_frame(left);
-        if (once_in(4)) { /* both in the same way */
-            right->height = left->height;
-            right->width = left->width;
-            right->levels = left->levels;
-        }
-    } else if (once_in(2))
-        spoil_frame(right);
+        right->height = left->height;
+        right->width = left->width;
+        right->levels = left->levels;
+        break;
+    case 1: /* each in its own way, so that the one may be refused by 1 and the other by 2 */
+        misname_frame(left);
+        misname_frame(right);
+        break;
+    case 2:
+    case 3:
+    case 4: spoil_frame(left); break;
+    case 5:
+    case 6:
+    case 7: spoil_frame(right); break;
+    default: break;
+    }
 }
 
 static void count_strip(struct tally *t, struct frame f)
