@@ -14,18 +14,14 @@ use Rattle.refusals.specs.declared.Refusal.{Refusal}
 use Rattle.refusals.specs.declared.Answer.{Answer}
 use Rattle.refusals.specs.declared.Answer.the-variants.{Done}
 use Rattle.refusals.proofs.After.{unchanged, past, within, front-passed}
-use Rattle.integers.specs.Lists.{every}
 use Rattle.integers.proofs.Tests.{is-true, is-false, both, both-left, both-right, both-true, eq→eqb, true-at, false-at}
-use Rattle.coverings.specs.Entry.{isNumber}
 use Rattle.pyramid.specs.Plane.{allBlocks}
-use Rattle.pyramid.specs.Ranges.{inRange}
 use Rattle.pyramid.specs.Sides.{isSides, isDepth, isPlane, isCoverings}
-use Rattle.pyramid.specs.Slices.{imageOf}
 use Rattle.places.proofs.Sides.{Passed, passed}
-use Rattle.strips.specs.Strip.{Strip, Sided, Deep, Framed, Numbered, Ranged, Passes}
+use Rattle.strips.specs.Strip.{Strip, wideOf, isSided, isDeep, isFramed, isNumbered, isRanged, Sided, Deep, Framed, Numbered, Ranged, Passes}
 use Rattle.coder.proofs.Gates.{truth}
-use Rattle.joining.specs.Entries.{pairRefusal, isFramed, joinRefusal, Joined}
-use Rattle.joining.specs.Claims.{Alike, wideOf, JoinChecks}
+use Rattle.joining.specs.Entries.{pairRefusal, joinRefusal, Joined}
+use Rattle.joining.specs.Claims.{Alike, JoinChecks}
 use Rattle.joining.specs.Pairs.{PlaneRoom, CoverRoom}
 
 -- ---- the number of each call
@@ -41,26 +37,10 @@ abbrev chain : Bool → Bool → Bool → Bool → Bool → Bool → Bool → �
 chain sided deep same wide framed numbered ranged =
     refuseIf (not sided) 1 (refuseIf (not deep) 2 (refuseIf (not same) 15 (refuseIf wide 16 (refuseIf (not framed) 3 (refuseIf (not numbered) 5 (refuseIf (not ranged) 6 0))))))
 
--- the tests of one strip
-abbrev sidesOf : Strip → Bool
-sidesOf s = isSides (s .height) (s .width)
-
-abbrev depthOf : Strip → Bool
-depthOf s = isDepth (s .levels) (s .height) (s .width)
-
-abbrev frameOf : Strip → Bool
-frameOf s = isFramed (s .height) (s .width) (s .levels) (s .plane) (s .coverings)
-
-abbrev numbersOf : Strip → Bool
-numbersOf s = every isNumber (s .coverings)
-
-abbrev rangesOf : Strip → Bool
-rangesOf s = inRange (s .levels) (s .height) (s .width) (imageOf (s .height) (s .plane))
-
-framed-of : (s : Strip) → Framed s → T (frameOf s)
+framed-of : (s : Strip) → Framed s → T (isFramed s)
 framed-of s f = both (isPlane (s .height) (s .width) (s .plane)) (isCoverings (s .levels) (s .height) (s .width) (s .coverings)) (eq→eqb (f .0)) (eq→eqb (f .1))
 
-pub of-framed : (s : Strip) → frameOf s ≡ true → Framed s
+pub of-framed : (s : Strip) → isFramed s ≡ true → Framed s
 of-framed s e = let b = both-true (isPlane (s .height) (s .width) (s .plane)) (isCoverings (s .levels) (s .height) (s .width) (s .coverings)) e in (eqb-true _ _ (b .0), eqb-true _ _ (b .1))
 
 module _ (left right : Strip) (plane : List ℤ) (coverings : List ℕ) where
@@ -74,13 +54,13 @@ module _ (left right : Strip) (plane : List ℤ) (coverings : List ℕ) where
   broad = ltb 512 (left .width + left .width)
 
   abbrev framed : Bool
-  framed = frameOf left && (frameOf right && frameOf wideStrip)
+  framed = isFramed left && (isFramed right && isFramed wideStrip)
 
-  sided : Sided left → Sided right → (sidesOf left && sidesOf right) ≡ true
-  sided a b = two (sidesOf left) (sidesOf right) a b
+  sided : Sided left → Sided right → (isSided left && isSided right) ≡ true
+  sided a b = two (isSided left) (isSided right) a b
 
-  deep : Deep left → Deep right → (depthOf left && depthOf right) ≡ true
-  deep a b = two (depthOf left) (depthOf right) a b
+  deep : Deep left → Deep right → (isDeep left && isDeep right) ≡ true
+  deep a b = two (isDeep left) (isDeep right) a b
 
   same : left .height ≡ right .height → left .width ≡ right .width → left .levels ≡ right .levels → alikeOf ≡ true
   same a b c = two (eqb (left .height) (right .height)) (eqb (left .width) (right .width) && eqb (left .levels) (right .levels)) (eq→eqb a) (both (eqb (left .width) (right .width)) (eqb (left .levels) (right .levels)) (eq→eqb b) (eq→eqb c))
@@ -91,33 +71,33 @@ module _ (left right : Strip) (plane : List ℤ) (coverings : List ℕ) where
       (λ a t. f (eqb→eq (left .height) (right .height) a) (eqb→eq (left .width) (right .width) (both-left (eqb (left .width) (right .width)) (eqb (left .levels) (right .levels)) t)) (eqb→eq (left .levels) (right .levels) (both-right (eqb (left .width) (right .width)) (eqb (left .levels) (right .levels)) t)))
 
   in-frame : Framed left → Framed right → Framed wideStrip → framed ≡ true
-  in-frame a b c = two (frameOf left) (frameOf right && frameOf wideStrip) (framed-of left a) (both (frameOf right) (frameOf wideStrip) (framed-of right b) (framed-of wideStrip c))
+  in-frame a b c = two (isFramed left) (isFramed right && isFramed wideStrip) (framed-of left a) (both (isFramed right) (isFramed wideStrip) (framed-of right b) (framed-of wideStrip c))
 
   off-frame : (Framed left → Framed right → Framed wideStrip → ⊥) → framed ≡ false
   off-frame f =
-      not-two (frameOf left) (frameOf right && frameOf wideStrip)
-      (λ a t. f (of-framed left (is-true (frameOf left) a)) (of-framed right (is-true (frameOf right) (both-left (frameOf right) (frameOf wideStrip) t))) (of-framed wideStrip (is-true (frameOf wideStrip) (both-right (frameOf right) (frameOf wideStrip) t))))
+      not-two (isFramed left) (isFramed right && isFramed wideStrip)
+      (λ a t. f (of-framed left (is-true (isFramed left) a)) (of-framed right (is-true (isFramed right) (both-left (isFramed right) (isFramed wideStrip) t))) (of-framed wideStrip (is-true (isFramed wideStrip) (both-right (isFramed right) (isFramed wideStrip) t))))
 
-  numbered : Numbered left → Numbered right → (numbersOf left && numbersOf right) ≡ true
-  numbered a b = two (numbersOf left) (numbersOf right) a b
+  numbered : Numbered left → Numbered right → (isNumbered left && isNumbered right) ≡ true
+  numbered a b = two (isNumbered left) (isNumbered right) a b
 
-  ranged : Ranged left → Ranged right → (rangesOf left && rangesOf right) ≡ true
-  ranged a b = two (rangesOf left) (rangesOf right) a b
+  ranged : Ranged left → Ranged right → (isRanged left && isRanged right) ≡ true
+  ranged a b = two (isRanged left) (isRanged right) a b
 
   narrow : left .width + left .width ≤ 512 → broad ≡ false
   narrow l = false-at 512 (left .width + left .width) l
 
   pub checks : JoinChecks left right plane coverings
   checks = record {
-    side = λ f i. chain (not-two (sidesOf left) (sidesOf right) f i) (depthOf left && depthOf right) alikeOf broad framed (numbersOf left && numbersOf right) (rangesOf left && rangesOf right);
-    depth = λ a b f i. chain (sided a b i) (not-two (depthOf left) (depthOf right) f i) alikeOf broad framed (numbersOf left && numbersOf right) (rangesOf left && rangesOf right);
-    mismatch = λ a b f i. chain (sided (a .0) (b .0) i) (deep (a .1) (b .1) i) (differ f i) broad framed (numbersOf left && numbersOf right) (rangesOf left && rangesOf right);
-    wide = λ a b c d e l i. chain (sided (a .0) (b .0) i) (deep (a .1) (b .1) i) (same c d e i) (true-at 512 (left .width + left .width) l i) framed (numbersOf left && numbersOf right) (rangesOf left && rangesOf right);
-    frame = λ a b c f i. chain (sided (a .0) (b .0) i) (deep (a .1) (b .1) i) (same (c .heights) (c .widths) (c .levels) i) (narrow (c .narrow) i) (off-frame f i) (numbersOf left && numbersOf right) (rangesOf left && rangesOf right);
+    side = λ f i. chain (not-two (isSided left) (isSided right) f i) (isDeep left && isDeep right) alikeOf broad framed (isNumbered left && isNumbered right) (isRanged left && isRanged right);
+    depth = λ a b f i. chain (sided a b i) (not-two (isDeep left) (isDeep right) f i) alikeOf broad framed (isNumbered left && isNumbered right) (isRanged left && isRanged right);
+    mismatch = λ a b f i. chain (sided (a .0) (b .0) i) (deep (a .1) (b .1) i) (differ f i) broad framed (isNumbered left && isNumbered right) (isRanged left && isRanged right);
+    wide = λ a b c d e l i. chain (sided (a .0) (b .0) i) (deep (a .1) (b .1) i) (same c d e i) (true-at 512 (left .width + left .width) l i) framed (isNumbered left && isNumbered right) (isRanged left && isRanged right);
+    frame = λ a b c f i. chain (sided (a .0) (b .0) i) (deep (a .1) (b .1) i) (same (c .heights) (c .widths) (c .levels) i) (narrow (c .narrow) i) (off-frame f i) (isNumbered left && isNumbered right) (isRanged left && isRanged right);
     covering = λ a b c d e g f i.
-        chain (sided (a .0) (b .0) i) (deep (a .1) (b .1) i) (same (c .heights) (c .widths) (c .levels) i) (narrow (c .narrow) i) (in-frame d e g i) (not-two (numbersOf left) (numbersOf right) f i) (rangesOf left && rangesOf right);
+        chain (sided (a .0) (b .0) i) (deep (a .1) (b .1) i) (same (c .heights) (c .widths) (c .levels) i) (narrow (c .narrow) i) (in-frame d e g i) (not-two (isNumbered left) (isNumbered right) f i) (isRanged left && isRanged right);
     coefficient = λ a b c d e g m n f i.
-        chain (sided (a .0) (b .0) i) (deep (a .1) (b .1) i) (same (c .heights) (c .widths) (c .levels) i) (narrow (c .narrow) i) (in-frame d e g i) (numbered m n i) (not-two (rangesOf left) (rangesOf right) f i);
+        chain (sided (a .0) (b .0) i) (deep (a .1) (b .1) i) (same (c .heights) (c .widths) (c .levels) i) (narrow (c .narrow) i) (in-frame d e g i) (numbered m n i) (not-two (isRanged left) (isRanged right) f i);
     accepted = λ a b c g i.
         chain (sided (a .sides) (b .sides) i) (deep (a .depth) (b .depth) i) (same (c .heights) (c .widths) (c .levels) i) (narrow (c .narrow) i) (in-frame (a .frame) (b .frame) g i) (numbered (a .numbers) (b .numbers) i) (ranged (a .ranges) (b .ranges) i);
   }
@@ -161,12 +141,12 @@ module _ (left right : Strip) (plane : List ℤ) (coverings : List ℕ) where
       let p = pair-past (left .height) (left .width) (left .levels) (right .height) (right .width) (right .levels) e in
       let z = p .0 in
       let c = past (framed left right plane coverings) 2 (p .1) in
-      let d = past (numbersOf left && numbersOf right) 4 (c .1) in
-      let r = past (rangesOf left && rangesOf right) 5 (d .1) in
-      let f = both-true (frameOf left) (frameOf right && frameOf (wideOf left plane coverings)) (c .0) in
-      let g = both-true (frameOf right) (frameOf (wideOf left plane coverings)) (f .1) in
-      let n = both-true (numbersOf left) (numbersOf right) (d .0) in
-      let i = both-true (rangesOf left) (rangesOf right) (r .0) in
+      let d = past (isNumbered left && isNumbered right) 4 (c .1) in
+      let r = past (isRanged left && isRanged right) 5 (d .1) in
+      let f = both-true (isFramed left) (isFramed right && isFramed (wideOf left plane coverings)) (c .0) in
+      let g = both-true (isFramed right) (isFramed (wideOf left plane coverings)) (f .1) in
+      let n = both-true (isNumbered left) (isNumbered right) (d .0) in
+      let i = both-true (isRanged left) (isRanged right) (r .0) in
       record {
         left-passes = record { sides = truth (z .left .sided); depth = truth (z .left .deep); frame = of-framed left (f .0); numbers = truth (n .0); ranges = truth (i .0) };
         right-passes = record { sides = truth (z .right .sided); depth = truth (z .right .deep); frame = of-framed right (g .0); numbers = truth (n .1); ranges = truth (i .1) };
@@ -180,7 +160,7 @@ module _ (left right : Strip) (plane : List ℤ) (coverings : List ℕ) where
   -- the work has room
   module _ (f : Found left right plane coverings) where
     size : Passed (left .height) (left .width) (left .levels)
-    size = passed (left .height) (left .width) (left .levels) (is-true (sidesOf left) (f .left-passes .sides)) (is-true (depthOf left) (f .left-passes .depth))
+    size = passed (left .height) (left .width) (left .levels) (is-true (isSided left) (f .left-passes .sides)) (is-true (isDeep left) (f .left-passes .depth))
 
     pub plane-room : PlaneRoom (left .levels) (left .height) (left .width) (length (left .plane)) (length (right .plane)) (length plane)
     plane-room = record {

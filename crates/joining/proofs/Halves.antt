@@ -5,7 +5,7 @@ use mathlib.Core.List.{List}
 use Prim.Native.Nat.{ℕ, zero, suc, _+_, _*_, _-_, _/_, _%_, _<_, _≤_}
 use native.Mathlib.Omega.{arith}
 use native.Mathlib.Decide.{decLt}
-use native.Mathlib.Nat.{mul-le-mul-right, le-refl}
+use native.Mathlib.Nat.{zero-add, mul-le-mul-right, le-refl}
 use lib.IntN.{ℤ}
 use lib.ListN.{length}
 use Rattle.pyramid.specs.Plane.{Image, Fits, top, left, band, layout, withLow}
@@ -153,15 +153,12 @@ module _ {R h w r m n : ℕ} {p q out : List ℤ} (before : Half R h w r m n p q
   unfolding joined
   half-end {new} A = slice-of h (w + w) (joined R h w (imageOf h p) (imageOf h q)) new (A .long ∙ H₀ .long) (λ y x a b. all y x a b (decLt y m) (decLt x (n + n)))
     where
-      zero-plus : (y : ℕ) → 0 + y ≡ y
-      zero-plus y = omega arith
-
       inside : (y x : ℕ) → y < m → x < n + n → imageOf h new y x ≡ joined R h w (imageOf h p) (imageOf h q) y x
       inside y x a b =
           let e : x ≡ 0 + 0 + x = omega arith in
-          (λ i. imageOf h new (sym (zero-plus y) i) (e i))
+          (λ i. imageOf h new (sym (zero-add y) i) (e i))
           ∙ A .pair y x a b
-          ∙ (λ i. beside n (λ y x. imageOf h p y (zero-plus x i)) (λ y x. imageOf h q y (zero-plus x i)) (zero-plus y i) x)
+          ∙ (λ i. beside n (λ y x. imageOf h p y (zero-add x i)) (λ y x. imageOf h q y (zero-add x i)) (zero-add y i) x)
           ∙ sym (H₀ .inner y x a b)
 
       apart : (y x : ℕ) → y < h → x < w + w → (y < m → x < n + n → ⊥) → imageOf h new y x ≡ joined R h w (imageOf h p) (imageOf h q) y x

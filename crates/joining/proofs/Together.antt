@@ -3,20 +3,15 @@ use mathlib.Core.Path.{_≡_, refl, sym, ap, _∙_, subst, subst⁻¹}
 use mathlib.Core.Bool.{true, not, _&&_}
 use mathlib.Core.List.{List, _++_}
 use Prim.Native.Nat.{ℕ, _+_, _*_, _≤_}
-use native.Mathlib.Omega.{arith}
 use lib.IntN.{ℤ, pos}
 use lib.ListN.{length, replicate, length-replicate}
 use Rattle.refusals.specs.Refusal.{refuseIf, afterCall}
 use Rattle.refusals.proofs.After.{past}
-use Rattle.integers.specs.Lists.{every}
 use Rattle.integers.proofs.Tests.{is-true, eq→eqb, false-at}
-use Rattle.coverings.specs.Entry.{isNumber}
-use Rattle.coverings.proofs.Checks.{number-at}
 use Rattle.terms.specs.Terms.{Terms}
 use Rattle.pyramid.specs.Plane.{allBlocks, Numbers, listed, Fits}
-use Rattle.pyramid.specs.Ranges.{inRange}
-use Rattle.pyramid.specs.Sides.{isSides, isDepth, isPlane, isCoverings}
-use Rattle.pyramid.specs.Slices.{imageOf, numeratorsOf, samplesOf}
+use Rattle.pyramid.specs.Sides.{isPlane, isCoverings}
+use Rattle.pyramid.specs.Slices.{numeratorsOf, samplesOf}
 use Rattle.quota.specs.Quota.{quotaLimit}
 use Rattle.coder.specs.Claims.{Left}
 use Rattle.coder.specs.Entries.{restoreRefusal, Restored}
@@ -25,22 +20,23 @@ use Rattle.keeping.specs.Entries.{keepRefusal, cutRefusal}
 use Rattle.sheet_text.specs.Sheet.{sheetText, writeRefusal}
 use Rattle.strips.specs.Join.{joinedOf, joinedCovers}
 use Rattle.strips.specs.Laws.{JoinLaws}
-use Rattle.strips.specs.Strip.{Strip, stripOf, Framed, Passes}
+use Rattle.strips.specs.Strip.{Strip, stripOf, wideOf, isSided, isDeep, isNumbered, isRanged, Framed, Passes}
 use Rattle.strips.proofs.All as strips
+use Rattle.strips.proofs.Passed.{of-test}
 use Rattle.places.proofs.Sides.{passed}
 use Rattle.joining.specs.Entries.{Joined}
-use Rattle.joining.specs.Claims.{Alike, wideOf, Taken, JoiningLaws}
+use Rattle.joining.specs.Claims.{Alike, Taken, JoiningLaws}
 use Rattle.joining.proofs.Gates.{checks, join-past}
 
 -- ---- one strip
 
 -- a strip that passes is accepted by the other entries
 module _ (s : Strip) (a : Passes s) where
-  sided : isSides (s .height) (s .width) ≡ true
-  sided = is-true (isSides (s .height) (s .width)) (a .sides)
+  sided : isSided s ≡ true
+  sided = is-true (isSided s) (a .sides)
 
-  deep : isDepth (s .levels) (s .height) (s .width) ≡ true
-  deep = is-true (isDepth (s .levels) (s .height) (s .width)) (a .depth)
+  deep : isDeep s ≡ true
+  deep = is-true (isDeep s) (a .depth)
 
   long : isPlane (s .height) (s .width) (s .plane) ≡ true
   long = is-true (isPlane (s .height) (s .width) (s .plane)) (eq→eqb (a .frame .0))
@@ -48,11 +44,11 @@ module _ (s : Strip) (a : Passes s) where
   covered : isCoverings (s .levels) (s .height) (s .width) (s .coverings) ≡ true
   covered = is-true (isCoverings (s .levels) (s .height) (s .width) (s .coverings)) (eq→eqb (a .frame .1))
 
-  numbered : every isNumber (s .coverings) ≡ true
-  numbered = is-true (every isNumber (s .coverings)) (a .numbers)
+  numbered : isNumbered s ≡ true
+  numbered = is-true (isNumbered s) (a .numbers)
 
-  ranged : inRange (s .levels) (s .height) (s .width) (imageOf (s .height) (s .plane)) ≡ true
-  ranged = is-true (inRange (s .levels) (s .height) (s .width) (imageOf (s .height) (s .plane))) (a .ranges)
+  ranged : isRanged s ≡ true
+  ranged = is-true (isRanged s) (a .ranges)
 
   pub restoring : (numerators scratch : List ℤ) (samples : List ℕ) → length numerators ≡ s .width * s .height → length samples ≡ s .width * s .height → length scratch ≡ s .width * s .height
       → restoreRefusal (s .height) (s .width) (s .levels) (s .plane) (s .coverings) numerators samples scratch ≡ 0
@@ -75,8 +71,8 @@ module _ (s : Strip) (a : Passes s) where
 pub restored-passes : (s : Strip) (numerators scratch : List ℤ) (samples : List ℕ) → restoreRefusal (s .height) (s .width) (s .levels) (s .plane) (s .coverings) numerators samples scratch ≡ 0 → Passes s
 restored-passes s numerators scratch samples e =
     let c = frame-past (s .height) (s .width) (s .levels) (s .plane) (s .coverings) numerators samples scratch (sym e) in
-    let d = past (every isNumber (s .coverings)) 4 (c .1) in
-    let r = past (inRange (s .levels) (s .height) (s .width) (imageOf (s .height) (s .plane))) 5 (d .1) in
+    let d = past (isNumbered s) 4 (c .1) in
+    let r = past (isRanged s) 5 (d .1) in
     record { sides = truth (c .0 .sizes .sided); depth = truth (c .0 .sizes .deep); frame = (c .0 .plane-long, c .0 .covered); numbers = truth (d .0); ranges = truth (r .0) }
 
 -- ---- two strips
@@ -85,14 +81,11 @@ module _ (R h w : ℕ) (p q : List ℤ) (l r : List ℕ) (a : Passes (stripOf h 
   fits : Fits R h w
   fits = passed h w R (sided (stripOf h w R p l) a) (deep (stripOf h w R p l) a) .fits
 
-  numbers-of : (cs : List ℕ) → length cs ≡ allBlocks R h w → every isNumber cs ≡ true → Numbers (allBlocks R h w) (listed cs)
-  numbers-of cs e t k i = number-at cs k t (omega (arith, e))
-
   ns : Numbers (allBlocks R h w) (listed l)
-  ns = numbers-of l (a .frame .1) (numbered (stripOf h w R p l) a)
+  ns = of-test (allBlocks R h w) l (a .frame .1) (a .numbers)
 
   ms : Numbers (allBlocks R h w) (listed r)
-  ms = numbers-of r (b .frame .1) (numbered (stripOf h w R q r) b)
+  ms = of-test (allBlocks R h w) r (b .frame .1) (b .numbers)
 
   abbrev both-strips : Strip
   both-strips = stripOf h (w + w) R (joinedOf R h w p q) (joinedCovers R h w l r)

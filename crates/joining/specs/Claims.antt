@@ -12,7 +12,7 @@ use Rattle.coder.specs.Claims.{Left}
 use Rattle.coder.specs.Entries.{restoreRefusal, Restored}
 use Rattle.keeping.specs.Entries.{keepRefusal, cutRefusal}
 use Rattle.sheet_text.specs.Sheet.{sheetText, writeRefusal}
-use Rattle.strips.specs.Strip.{Strip, stripOf, Sided, Deep, Framed, Numbered, Ranged, Passes}
+use Rattle.strips.specs.Strip.{Strip, stripOf, wideOf, Sided, Deep, Framed, Numbered, Ranged, Passes}
 use Rattle.joining.specs.Entries.{joinRefusal, Joined}
 
 -- What 1 and 2 ask of a strip.
@@ -25,10 +25,6 @@ pub record Alike (left right : Strip) : Type 0 where
   pub widths : left .width ≡ right .width
   pub levels : left .levels ≡ right .levels
   pub narrow : left .width + left .width ≤ 512
-
--- The joined slices as a strip.
-abbrev pub wideOf : Strip → List ℤ → List ℕ → Strip
-wideOf s plane coverings = stripOf (s .height) (s .width + s .width) (s .levels) plane coverings
 
 -- The number of each call: "Each check takes the left strip, then the right, before the next check".
 pub record JoinChecks (left right : Strip) (plane : List ℤ) (coverings : List ℕ) : Type 0 where

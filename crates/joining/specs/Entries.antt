@@ -1,18 +1,14 @@
 -- The entry join: its checks in order, its answer, and what it leaves in both lent slices. Assumes nothing.
 use mathlib.Core.Path.{_≡_}
-use mathlib.Core.Bool.{Bool, not, _&&_}
+use mathlib.Core.Bool.{not, _&&_}
 use mathlib.Core.List.{List}
 use Prim.Native.Nat.{ℕ, _+_}
 use lib.Dec.{eqb, ltb}
 use lib.IntN.{ℤ}
 use Rattle.refusals.specs.Refusal.{refuseIf, afterCall}
-use Rattle.integers.specs.Lists.{every}
-use Rattle.coverings.specs.Entry.{isNumber}
-use Rattle.pyramid.specs.Ranges.{inRange}
-use Rattle.pyramid.specs.Sides.{isSides, isDepth, isPlane, isCoverings}
-use Rattle.pyramid.specs.Slices.{imageOf}
+use Rattle.pyramid.specs.Sides.{isSides, isDepth}
 use Rattle.strips.specs.Join.{joinedOf, joinedCovers}
-use Rattle.strips.specs.Strip.{Strip}
+use Rattle.strips.specs.Strip.{Strip, wideOf, isFramed, isNumbered, isRanged}
 
 -- Document 02, wish 8: 1 and 2, and "Each check takes the left strip, then the right, before the next check"; "15 when heights, widths or levels differ, after
 -- 2; 16 when the joined width is over 512, after 15 and before 3". Behind these four checks go the others.
@@ -24,17 +20,13 @@ pairRefusal leftHeight leftWidth leftLevels rightHeight rightWidth rightLevels r
     (refuseIf (ltb 512 (leftWidth + leftWidth)) 16
     rest)))
 
--- Check 3 of one plane with its coverings.
-abbrev pub isFramed : ℕ → ℕ → ℕ → List ℤ → List ℕ → Bool
-isFramed height width levels plane coverings = isPlane height width plane && isCoverings levels height width coverings
-
 -- "The checks are 1, 2, 3, 5, 6"; "3 then looks at the joined slices", which are twice as wide.
 abbrev pub joinRefusal : Strip → Strip → List ℤ → List ℕ → ℕ
 joinRefusal left right plane coverings =
     pairRefusal (left .height) (left .width) (left .levels) (right .height) (right .width) (right .levels)
-    (refuseIf (not (isFramed (left .height) (left .width) (left .levels) (left .plane) (left .coverings) && (isFramed (right .height) (right .width) (right .levels) (right .plane) (right .coverings) && isFramed (left .height) (left .width + left .width) (left .levels) plane coverings))) 3
-    (refuseIf (not (every isNumber (left .coverings) && every isNumber (right .coverings))) 5
-    (refuseIf (not (inRange (left .levels) (left .height) (left .width) (imageOf (left .height) (left .plane)) && inRange (right .levels) (right .height) (right .width) (imageOf (right .height) (right .plane)))) 6
+    (refuseIf (not (isFramed left && (isFramed right && isFramed (wideOf left plane coverings)))) 3
+    (refuseIf (not (isNumbered left && isNumbered right)) 5
+    (refuseIf (not (isRanged left && isRanged right)) 6
     0)))
 
 -- n is the number that the call is answered with, 0 where it is accepted; a name with ′ is what the slice holds after the call.

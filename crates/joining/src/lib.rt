@@ -6,9 +6,9 @@ ghost use Prim.Native.Nat.{ℕ, _≤_};
 ghost use lib.ListN.{length};
 ghost use Rattle.refusals.specs.Refusal.{answerOf, afterCall};
 ghost use Rattle.strips.specs.Join.{joinedOf, joinedCovers};
-ghost use Rattle.strips.specs.Strip.{stripOf};
+ghost use Rattle.strips.specs.Strip.{stripOf, isFramed};
 ghost use Rattle.joining.specs.Claims.{JoiningLaws};
-ghost use Rattle.joining.specs.Entries.{pairRefusal, isFramed, joinRefusal, Joined};
+ghost use Rattle.joining.specs.Entries.{pairRefusal, joinRefusal, Joined};
 ghost use Rattle.joining.specs.Pairs.{PairRoom, Paired, PlaneRoom, CoverRoom};
 use refusals::Answer;
 use refusals::Refusal;
@@ -133,7 +133,7 @@ fn pair_checks(
 // Whether a plane and its coverings are of exact length.
 fn is_framed(height: usize, width: usize, levels: usize, plane: &[i64], coverings: &[u8]) -> bool
     requires { ⌜ (height ≤ 512) × (width ≤ 512) × (levels ≤ 8) ⌝ }
-    ensures { λ r. ⌜ r ≡ isFramed height width levels (now (plane .entry)) (now (coverings .entry)) ⌝ }
+    ensures { λ r. ⌜ r ≡ isFramed (stripOf height width levels (now (plane .entry)) (now (coverings .entry))) ⌝ }
 {
     let area = width * height;
     let blocks = places::checks::count_blocks(levels, height, width);

@@ -14,8 +14,8 @@ use Rattle.integers.proofs.Tests.{is-true, is-false}
 use Rattle.slices.specs.Stores.{Room}
 use Rattle.slices.proofs.Stores.{room-at}
 use Rattle.pyramid.specs.Plane.{Fits, halved}
-use Rattle.pyramid.specs.Places.{Place, placeAt, placesFrom, at}
-use Rattle.pyramid.specs.Ranges.{inRange, InRange}
+use Rattle.pyramid.specs.Places.{placeAt, placesFrom, at}
+use Rattle.pyramid.specs.Ranges.{inRange}
 use Rattle.pyramid.specs.Slices.{imageOf}
 use Rattle.pyramid.proofs.Places.{All, all-places, of-places}
 use Rattle.pyramid.proofs.Whole.{ranged}

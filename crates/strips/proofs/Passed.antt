@@ -55,7 +55,7 @@ joined-range (suc R) h w f p q a b =
     J = joined (suc R) h w (imageOf h p) (imageOf h q)
 
 -- coverings that pass check 5 are numbers
-of-test : (n : ℕ) (cs : List ℕ) → length cs ≡ n → T (every isNumber cs) → Numbers n (listed cs)
+pub of-test : (n : ℕ) (cs : List ℕ) → length cs ≡ n → T (every isNumber cs) → Numbers n (listed cs)
 of-test n cs e t k l = number-at cs k (is-true (every isNumber cs) t) (omega arith)
 
 -- twice a side is the next one, up to 512

@@ -3,8 +3,9 @@
 use mathlib.Core.Path.{_≡_, refl, sym, _∙_, subst, subst⁻¹}
 use mathlib.Core.Bool.{true}
 use mathlib.Core.List.{List, [], _++_}
-use Prim.Native.Nat.{ℕ, zero, suc, _+_, _*_, _-_, _/_, _%_, _<_}
+use Prim.Native.Nat.{ℕ, zero, suc, _+_, _*_, _/_, _%_, _<_}
 use native.Mathlib.Omega.{arith}
+use native.Mathlib.Nat.{zero-add}
 use lib.IntN.{ℤ}
 use lib.ListN.{length, getD, length-append}
 use Rattle.integers.proofs.Index.{index-bound}
@@ -51,9 +52,6 @@ Here G P p = G (p .level) (p .band) (p .row) (p .col) (at P p)
 abbrev Further : Said → (ℕ → ℕ) → Image → Place → Type 0
 Further G c P p = G (p .level) (p .band) (p .row) (c (p .level) + p .col) (at P p)
 
-zero-plus : (y : ℕ) → 0 + y ≡ y
-zero-plus y = omega arith
-
 -- the bands of one level
 module _ (G : Said) (c : ℕ → ℕ) (P Q L : Image) (d h w : ℕ) (w4 : w % 4 ≡ 0) (e : Columns c d w) where
   abbrev sides : ℕ → Image
@@ -99,7 +97,7 @@ module _ (G : Said) (c : ℕ → ℕ) (P Q L : Image) (d h w : ℕ) (w4 : w % 4 
 
 -- the low-pass after the last level is side by side
 low-side : (P Q : Image) (d h w b : ℕ) (G : Said) (c : ℕ → ℕ) (w4 : w % 4 ≡ 0) (e : Columns c d w) → Side G c P Q (beside (w / 2) P Q) d h w w4 e b
-low-side P Q d h w zero G c w4 e y x k l = sym (λ i. beside (w / 2) (λ y x. P (zero-plus y i) (zero-plus x i)) (λ y x. Q (zero-plus y i) (zero-plus x i)) y x)
+low-side P Q d h w zero G c w4 e y x k l = sym (λ i. beside (w / 2) (λ y x. P (zero-add y i) (zero-add x i)) (λ y x. Q (zero-add y i) (zero-add x i)) y x)
 low-side P Q d h w (suc b) G c w4 e y x k l = refl
 
 -- all levels

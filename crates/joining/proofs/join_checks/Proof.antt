@@ -1,20 +1,14 @@
 -- `joining::join_checks` meets its contract: the first four checks, then each return by what the tests before it found. Assumes nothing.
 use mathlib.Core.Path.{_≡_}
 use mathlib.Core.Bool.{true, not, _&&_}
-use Prim.Native.Nat.{_+_}
 use native.Mathlib.Omega.{arith}
 use borrow.Author.Needs.{needs}
 use borrow.Author.Tests.{not-false}
 use Rattle.refusals.specs.Refusal.{refuseIf}
 use Rattle.refusals.proofs.After.{front-refused, front-passed}
-use Rattle.integers.specs.Lists.{every}
 use Rattle.integers.proofs.Tests.{both-true}
-use Rattle.coverings.specs.Entry.{isNumber}
-use Rattle.pyramid.specs.Ranges.{inRange}
-use Rattle.pyramid.specs.Slices.{imageOf}
-use Rattle.strips.specs.Strip.{Strip, stripOf, Framed}
-use Rattle.joining.specs.Claims.{wideOf}
-use Rattle.joining.specs.Entries.{isFramed, joinRefusal}
+use Rattle.strips.specs.Strip.{Strip, stripOf, wideOf, isFramed, isNumbered, isRanged, Framed}
+use Rattle.joining.specs.Entries.{joinRefusal}
 use Rattle.joining.proofs.Gates.{Pair, pair-passed, of-framed}
 use Rattle.joining.proofs.join_checks.Statement.{statement}
 use Rattle.joining.proofs.join_checks.Tie as tie
@@ -31,9 +25,9 @@ good c = pair-passed _ _ _ _ _ _ (c .enum-told .given .1) (c .before .before .pa
 
 -- the other three
 behind : (c : tie.After-enum-told) → let s = c .before .before .before .before .before .before in let l = left s in let r = right s in
-    refuseIf (not (isFramed (l .height) (l .width) (l .levels) (l .plane) (l .coverings) && (isFramed (r .height) (r .width) (r .levels) (r .plane) (r .coverings) && isFramed (l .height) (l .width + l .width) (l .levels) (s .args .plane .now) (s .args .coverings .now)))) 3
-    (refuseIf (not (every isNumber (l .coverings) && every isNumber (r .coverings))) 5
-    (refuseIf (not (inRange (l .levels) (l .height) (l .width) (imageOf (l .height) (l .plane)) && inRange (r .levels) (r .height) (r .width) (imageOf (r .height) (r .plane)))) 6 0))
+    refuseIf (not (isFramed l && (isFramed r && isFramed (wideOf l (s .args .plane .now) (s .args .coverings .now))))) 3
+    (refuseIf (not (isNumbered l && isNumbered r)) 5
+    (refuseIf (not (isRanged l && isRanged r)) 6 0))
     ≡ joinRefusal l r (s .args .plane .now) (s .args .coverings .now)
 behind c = front-passed _ (c .enum-told .given .1) (c .before .before .pair-checks .ensures _)
 
@@ -42,10 +36,10 @@ framed : (c : tie.Else1) → let s = c .before .before .before .before .before .
 framed c =
     let s = c .before .before .before .before .before .before .before .before .before .before in
     let w = wideOf (left s) (s .args .plane .now) (s .args .coverings .now) in
-    let f : (isFramed (left s .height) (left s .width) (left s .levels) (left s .plane) (left s .coverings) && (isFramed (right s .height) (right s .width) (right s .levels) (right s .plane) (right s .coverings) && isFramed (w .height) (w .width) (w .levels) (w .plane) (w .coverings))) ≡ true
+    let f : (isFramed (left s) && (isFramed (right s) && isFramed w)) ≡ true
     = rw (← c .before .before .before .is-framed .ensures, ← c .before .before .is-framed2 .ensures, ← c .before .is-framed3 .ensures) (not-false _ (c .if1 .left)) in
-    let a = both-true (isFramed (left s .height) (left s .width) (left s .levels) (left s .plane) (left s .coverings)) (isFramed (right s .height) (right s .width) (right s .levels) (right s .plane) (right s .coverings) && isFramed (w .height) (w .width) (w .levels) (w .plane) (w .coverings)) f in
-    let b = both-true (isFramed (right s .height) (right s .width) (right s .levels) (right s .plane) (right s .coverings)) (isFramed (w .height) (w .width) (w .levels) (w .plane) (w .coverings)) (a .1) in
+    let a = both-true (isFramed (left s)) (isFramed (right s) && isFramed w) f in
+    let b = both-true (isFramed (right s)) (isFramed w) (a .1) in
     (of-framed (left s) (a .0), of-framed (right s) (b .0))
 
 pair-checks-requires : tie.Need-pair-checks-requires
