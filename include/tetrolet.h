@@ -45,7 +45,8 @@ enum {
     TETROLET_TOLERANCE = 13,    /* the tolerance is over 4,095 */
     TETROLET_LIST = 14,         /* the list is empty, does not strictly rise, or holds 0 or a number over 117 */
     TETROLET_MISMATCH = 15,     /* join: the heights, the widths or the levels of the two strips differ */
-    TETROLET_JOINED_WIDTH = 16  /* join: the joined width is over 512 */
+    TETROLET_JOINED_WIDTH = 16, /* join: the joined width is over 512 */
+    TETROLET_WINDOW = 17        /* window: it has no cell, or reaches past the image */
 };
 
 /* The largest counts: samples of an image, coverings of an image, bytes of a sheet, bytes of a usage list. */
@@ -206,6 +207,21 @@ uint32_t tetrolet_usage(const uint8_t *coverings, size_t coverings_len, uint8_t 
  * Refusals: 1, 3.
  */
 uint32_t tetrolet_test_image(size_t height, size_t width, uint32_t start, uint16_t *samples, size_t samples_len);
+
+/* ---- The viewer ---- */
+
+/*
+ * Restores a window of an image: window_height rows from row `top` on, window_width columns from column `left` on. Its samples are those that
+ * tetrolet_restore gives at the same places. Blocks that do not touch the window are not restored, so that a small window takes little more time than the
+ * checks, which look at the whole plane. No scratch is asked for.
+ *   plane      height * width entries in range, as for tetrolet_restore, read
+ *   coverings  B numbers, 1 to 117, read
+ *   samples    window_height * window_width samples, written down the window's columns: its row y, column x is at x * window_height + y
+ * Refusals: 1, 2, 17, 3, 5, 6. top, left, window_height and window_width may be any numbers: no sum of them wraps.
+ */
+uint32_t tetrolet_window(size_t height, size_t width, size_t levels, const int64_t *plane, size_t plane_len, const uint8_t *coverings,
+                         size_t coverings_len, size_t top, size_t left, size_t window_height, size_t window_width, uint16_t *samples,
+                         size_t samples_len);
 
 #ifdef __cplusplus
 }

@@ -12,6 +12,7 @@ ghost use Rattle.coder.specs.Entries.{Decomposed, DecomposedWithin, Restored};
 ghost use Rattle.listing.specs.Entries.{DecomposedListed, RestoredListed};
 ghost use Rattle.strips.specs.Strip.{stripOf};
 ghost use Rattle.joining.specs.Entries.{Joined};
+ghost use Rattle.viewer.specs.Window.{viewOf, Viewed};
 ghost use Rattle.generator.specs.Generator.{Generated};
 use refusals::Counted;
 use sheet::Reading;
@@ -177,6 +178,35 @@ pub extern "C" fn tetrolet_join(
         right_coverings,
         plane,
         coverings,
+    ))
+}
+
+#[no_mangle]
+pub extern "C" fn tetrolet_window(
+    height: usize,
+    width: usize,
+    levels: usize,
+    plane: &[i64],
+    coverings: &[u8],
+    top: usize,
+    left: usize,
+    window_height: usize,
+    window_width: usize,
+    samples: &mut [u16],
+) -> u32
+    ensures { λ n. ⌜ Viewed (stripOf height width levels (now (plane .entry)) (now (coverings .entry))) (viewOf top left «window_height» «window_width») (now (samples .entry)) (now (samples .exit)) n ⌝ }
+{
+    refusals::code(viewer::window(
+        height,
+        width,
+        levels,
+        plane,
+        coverings,
+        top,
+        left,
+        window_height,
+        window_width,
+        samples,
     ))
 }
 

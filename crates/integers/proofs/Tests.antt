@@ -38,6 +38,13 @@ pub both-true : (a b : Bool) → (a && b) ≡ true → (a ≡ true) × (b ≡ tr
 both-true true b e = (refl, e)
 both-true false b e = absurd (subst T (sym e) tt)
 
+-- both tests, as Booleans
+pub two-hold : (a b : Bool) → T a → T b → (a && b) ≡ true
+two-hold a b s t = is-true (a && b) (both a b s t)
+
+pub not-both : (a b : Bool) → (T a → T b → ⊥) → (a && b) ≡ false
+not-both a b f = is-false (a && b) (λ t. f (both-left a b t) (both-right a b t))
+
 pub either : (a b : Bool) → T (a || b) → T a ⊎ T b
 either true b t = inl tt
 either false b t = inr t

@@ -14,10 +14,11 @@ use Rattle.refusals.specs.declared.Refusal.{Refusal}
 use Rattle.refusals.specs.declared.Answer.{Answer}
 use Rattle.refusals.specs.declared.Answer.the-variants.{Done}
 use Rattle.refusals.proofs.After.{unchanged, past, within, front-passed}
-use Rattle.integers.proofs.Tests.{is-true, is-false, both, both-left, both-right, both-true, eq→eqb, true-at, false-at}
+use Rattle.integers.proofs.Tests.{is-true, both, both-left, both-right, both-true, two-hold, not-both, eq→eqb, true-at, false-at}
 use Rattle.pyramid.specs.Plane.{allBlocks}
-use Rattle.pyramid.specs.Sides.{isSides, isDepth, isPlane, isCoverings}
+use Rattle.pyramid.specs.Sides.{isSides, isDepth}
 use Rattle.places.proofs.Sides.{Passed, passed}
+use Rattle.strips.proofs.Passed.{framed-of, of-framed}
 use Rattle.strips.specs.Strip.{Strip, wideOf, isSided, isDeep, isFramed, isNumbered, isRanged, Sided, Deep, Framed, Numbered, Ranged, Passes}
 use Rattle.coder.proofs.Gates.{truth}
 use Rattle.joining.specs.Entries.{pairRefusal, joinRefusal, Joined}
@@ -26,22 +27,10 @@ use Rattle.joining.specs.Pairs.{PlaneRoom, CoverRoom}
 
 -- ---- the number of each call
 
-two : (a b : Bool) → T a → T b → (a && b) ≡ true
-two a b s t = is-true (a && b) (both a b s t)
-
-not-two : (a b : Bool) → (T a → T b → ⊥) → (a && b) ≡ false
-not-two a b f = is-false (a && b) (λ t. f (both-left a b t) (both-right a b t))
-
 -- the list of checks, by what each finds
 abbrev chain : Bool → Bool → Bool → Bool → Bool → Bool → Bool → ℕ
 chain sided deep same wide framed numbered ranged =
     refuseIf (not sided) 1 (refuseIf (not deep) 2 (refuseIf (not same) 15 (refuseIf wide 16 (refuseIf (not framed) 3 (refuseIf (not numbered) 5 (refuseIf (not ranged) 6 0))))))
-
-framed-of : (s : Strip) → Framed s → T (isFramed s)
-framed-of s f = both (isPlane (s .height) (s .width) (s .plane)) (isCoverings (s .levels) (s .height) (s .width) (s .coverings)) (eq→eqb (f .0)) (eq→eqb (f .1))
-
-pub of-framed : (s : Strip) → isFramed s ≡ true → Framed s
-of-framed s e = let b = both-true (isPlane (s .height) (s .width) (s .plane)) (isCoverings (s .levels) (s .height) (s .width) (s .coverings)) e in (eqb-true _ _ (b .0), eqb-true _ _ (b .1))
 
 module _ (left right : Strip) (plane : List ℤ) (coverings : List ℕ) where
   abbrev wideStrip : Strip
@@ -57,47 +46,47 @@ module _ (left right : Strip) (plane : List ℤ) (coverings : List ℕ) where
   framed = isFramed left && (isFramed right && isFramed wideStrip)
 
   sided : Sided left → Sided right → (isSided left && isSided right) ≡ true
-  sided a b = two (isSided left) (isSided right) a b
+  sided a b = two-hold (isSided left) (isSided right) a b
 
   deep : Deep left → Deep right → (isDeep left && isDeep right) ≡ true
-  deep a b = two (isDeep left) (isDeep right) a b
+  deep a b = two-hold (isDeep left) (isDeep right) a b
 
   same : left .height ≡ right .height → left .width ≡ right .width → left .levels ≡ right .levels → alikeOf ≡ true
-  same a b c = two (eqb (left .height) (right .height)) (eqb (left .width) (right .width) && eqb (left .levels) (right .levels)) (eq→eqb a) (both (eqb (left .width) (right .width)) (eqb (left .levels) (right .levels)) (eq→eqb b) (eq→eqb c))
+  same a b c = two-hold (eqb (left .height) (right .height)) (eqb (left .width) (right .width) && eqb (left .levels) (right .levels)) (eq→eqb a) (both (eqb (left .width) (right .width)) (eqb (left .levels) (right .levels)) (eq→eqb b) (eq→eqb c))
 
   differ : (left .height ≡ right .height → left .width ≡ right .width → left .levels ≡ right .levels → ⊥) → alikeOf ≡ false
   differ f =
-      not-two (eqb (left .height) (right .height)) (eqb (left .width) (right .width) && eqb (left .levels) (right .levels))
+      not-both (eqb (left .height) (right .height)) (eqb (left .width) (right .width) && eqb (left .levels) (right .levels))
       (λ a t. f (eqb→eq (left .height) (right .height) a) (eqb→eq (left .width) (right .width) (both-left (eqb (left .width) (right .width)) (eqb (left .levels) (right .levels)) t)) (eqb→eq (left .levels) (right .levels) (both-right (eqb (left .width) (right .width)) (eqb (left .levels) (right .levels)) t)))
 
   in-frame : Framed left → Framed right → Framed wideStrip → framed ≡ true
-  in-frame a b c = two (isFramed left) (isFramed right && isFramed wideStrip) (framed-of left a) (both (isFramed right) (isFramed wideStrip) (framed-of right b) (framed-of wideStrip c))
+  in-frame a b c = two-hold (isFramed left) (isFramed right && isFramed wideStrip) (framed-of left a) (both (isFramed right) (isFramed wideStrip) (framed-of right b) (framed-of wideStrip c))
 
   off-frame : (Framed left → Framed right → Framed wideStrip → ⊥) → framed ≡ false
   off-frame f =
-      not-two (isFramed left) (isFramed right && isFramed wideStrip)
+      not-both (isFramed left) (isFramed right && isFramed wideStrip)
       (λ a t. f (of-framed left (is-true (isFramed left) a)) (of-framed right (is-true (isFramed right) (both-left (isFramed right) (isFramed wideStrip) t))) (of-framed wideStrip (is-true (isFramed wideStrip) (both-right (isFramed right) (isFramed wideStrip) t))))
 
   numbered : Numbered left → Numbered right → (isNumbered left && isNumbered right) ≡ true
-  numbered a b = two (isNumbered left) (isNumbered right) a b
+  numbered a b = two-hold (isNumbered left) (isNumbered right) a b
 
   ranged : Ranged left → Ranged right → (isRanged left && isRanged right) ≡ true
-  ranged a b = two (isRanged left) (isRanged right) a b
+  ranged a b = two-hold (isRanged left) (isRanged right) a b
 
   narrow : left .width + left .width ≤ 512 → broad ≡ false
   narrow l = false-at 512 (left .width + left .width) l
 
   pub checks : JoinChecks left right plane coverings
   checks = record {
-    side = λ f i. chain (not-two (isSided left) (isSided right) f i) (isDeep left && isDeep right) alikeOf broad framed (isNumbered left && isNumbered right) (isRanged left && isRanged right);
-    depth = λ a b f i. chain (sided a b i) (not-two (isDeep left) (isDeep right) f i) alikeOf broad framed (isNumbered left && isNumbered right) (isRanged left && isRanged right);
+    side = λ f i. chain (not-both (isSided left) (isSided right) f i) (isDeep left && isDeep right) alikeOf broad framed (isNumbered left && isNumbered right) (isRanged left && isRanged right);
+    depth = λ a b f i. chain (sided a b i) (not-both (isDeep left) (isDeep right) f i) alikeOf broad framed (isNumbered left && isNumbered right) (isRanged left && isRanged right);
     mismatch = λ a b f i. chain (sided (a .0) (b .0) i) (deep (a .1) (b .1) i) (differ f i) broad framed (isNumbered left && isNumbered right) (isRanged left && isRanged right);
     wide = λ a b c d e l i. chain (sided (a .0) (b .0) i) (deep (a .1) (b .1) i) (same c d e i) (true-at 512 (left .width + left .width) l i) framed (isNumbered left && isNumbered right) (isRanged left && isRanged right);
     frame = λ a b c f i. chain (sided (a .0) (b .0) i) (deep (a .1) (b .1) i) (same (c .heights) (c .widths) (c .levels) i) (narrow (c .narrow) i) (off-frame f i) (isNumbered left && isNumbered right) (isRanged left && isRanged right);
     covering = λ a b c d e g f i.
-        chain (sided (a .0) (b .0) i) (deep (a .1) (b .1) i) (same (c .heights) (c .widths) (c .levels) i) (narrow (c .narrow) i) (in-frame d e g i) (not-two (isNumbered left) (isNumbered right) f i) (isRanged left && isRanged right);
+        chain (sided (a .0) (b .0) i) (deep (a .1) (b .1) i) (same (c .heights) (c .widths) (c .levels) i) (narrow (c .narrow) i) (in-frame d e g i) (not-both (isNumbered left) (isNumbered right) f i) (isRanged left && isRanged right);
     coefficient = λ a b c d e g m n f i.
-        chain (sided (a .0) (b .0) i) (deep (a .1) (b .1) i) (same (c .heights) (c .widths) (c .levels) i) (narrow (c .narrow) i) (in-frame d e g i) (numbered m n i) (not-two (isRanged left) (isRanged right) f i);
+        chain (sided (a .0) (b .0) i) (deep (a .1) (b .1) i) (same (c .heights) (c .widths) (c .levels) i) (narrow (c .narrow) i) (in-frame d e g i) (numbered m n i) (not-both (isRanged left) (isRanged right) f i);
     accepted = λ a b c g i.
         chain (sided (a .sides) (b .sides) i) (deep (a .depth) (b .depth) i) (same (c .heights) (c .widths) (c .levels) i) (narrow (c .narrow) i) (in-frame (a .frame) (b .frame) g i) (numbered (a .numbers) (b .numbers) i) (ranged (a .ranges) (b .ranges) i);
   }

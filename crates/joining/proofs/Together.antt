@@ -15,7 +15,7 @@ use Rattle.pyramid.specs.Slices.{numeratorsOf, samplesOf}
 use Rattle.quota.specs.Quota.{quotaLimit}
 use Rattle.coder.specs.Claims.{Left}
 use Rattle.coder.specs.Entries.{restoreRefusal, Restored}
-use Rattle.coder.proofs.Gates.{truth, frame-past, restores}
+use Rattle.coder.proofs.Gates.{restored-passes, restores}
 use Rattle.keeping.specs.Entries.{keepRefusal, cutRefusal}
 use Rattle.sheet_text.specs.Sheet.{sheetText, writeRefusal}
 use Rattle.strips.specs.Join.{joinedOf, joinedCovers}
@@ -68,13 +68,6 @@ module _ (s : Strip) (a : Passes s) where
       (refuseIf (false-at (length buffer) (length (sheetText (s .height) (s .width) (s .levels) (s .plane) (s .coverings))) l i) 10 0)))))
 
 -- a strip that restoring accepts passes
-pub restored-passes : (s : Strip) (numerators scratch : List ℤ) (samples : List ℕ) → restoreRefusal (s .height) (s .width) (s .levels) (s .plane) (s .coverings) numerators samples scratch ≡ 0 → Passes s
-restored-passes s numerators scratch samples e =
-    let c = frame-past (s .height) (s .width) (s .levels) (s .plane) (s .coverings) numerators samples scratch (sym e) in
-    let d = past (isNumbered s) 4 (c .1) in
-    let r = past (isRanged s) 5 (d .1) in
-    record { sides = truth (c .0 .sizes .sided); depth = truth (c .0 .sizes .deep); frame = (c .0 .plane-long, c .0 .covered); numbers = truth (d .0); ranges = truth (r .0) }
-
 -- ---- two strips
 
 module _ (R h w : ℕ) (p q : List ℤ) (l r : List ℕ) (a : Passes (stripOf h w R p l)) (b : Passes (stripOf h w R q r)) (narrow : w + w ≤ 512) where
@@ -132,7 +125,7 @@ left-passes : (t : Terms) (height width levels : ℕ) (s : List ℕ) (p : List �
 left-passes t height width levels s p l d =
     let z = replicate (width * height) (pos 0) in
     let y = replicate {A = ℕ} (width * height) 0 in
-    restored-passes (stripOf height width levels p l) z z y (d .restores z z y (length-replicate (width * height) (pos 0)) (length-replicate (width * height) (pos 0)) (length-replicate {A = ℕ} (width * height) 0))
+    restored-passes (stripOf height width levels p l) z z y (sym (d .restores z z y (length-replicate (width * height) (pos 0)) (length-replicate (width * height) (pos 0)) (length-replicate {A = ℕ} (width * height) 0)))
 
 pictures : (t u : Terms) (height width levels : ℕ) (s r : List ℕ) (p q : List ℤ) (l m : List ℕ) → Left t height width levels s p l → Left u height width levels r q m → width + width ≤ 512
     → (plane plane′ : List ℤ) (coverings coverings′ : List ℕ) (k : ℕ) → Framed (stripOf height (width + width) levels plane coverings)
@@ -154,6 +147,6 @@ laws = record {
   checks = checks;
   taken = taken;
   joins = λ left right a numerators numerators₂ samples samples₂ scratch scratch₂ c d plane coverings f.
-      checks left right plane coverings .accepted (restored-passes left numerators scratch samples c) (restored-passes right numerators₂ scratch₂ samples₂ d) a f;
+      checks left right plane coverings .accepted (restored-passes left numerators scratch samples (sym c)) (restored-passes right numerators₂ scratch₂ samples₂ (sym d)) a f;
   pictures = pictures;
 }

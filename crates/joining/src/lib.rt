@@ -2,11 +2,11 @@
 // crate `strips`. What the entry answers and leaves is in specs/Entries.antt; what is proved of it beside the other entries, `JoiningLaws` of
 // specs/Claims.antt, is in proofs/Together.antt.
 ghost use mathlib.Core.Path.{_≡_};
-ghost use Prim.Native.Nat.{ℕ, _≤_};
+ghost use Prim.Native.Nat.{ℕ};
 ghost use lib.ListN.{length};
 ghost use Rattle.refusals.specs.Refusal.{answerOf, afterCall};
 ghost use Rattle.strips.specs.Join.{joinedOf, joinedCovers};
-ghost use Rattle.strips.specs.Strip.{stripOf, isFramed};
+ghost use Rattle.strips.specs.Strip.{stripOf};
 ghost use Rattle.joining.specs.Claims.{JoiningLaws};
 ghost use Rattle.joining.specs.Entries.{pairRefusal, joinRefusal, Joined};
 ghost use Rattle.joining.specs.Pairs.{PairRoom, Paired, PlaneRoom, CoverRoom};
@@ -130,16 +130,6 @@ fn pair_checks(
     Answer::Done
 }
 
-// Whether a plane and its coverings are of exact length.
-fn is_framed(height: usize, width: usize, levels: usize, plane: &[i64], coverings: &[u8]) -> bool
-    requires { ⌜ (height ≤ 512) × (width ≤ 512) × (levels ≤ 8) ⌝ }
-    ensures { λ r. ⌜ r ≡ isFramed (stripOf height width levels (now (plane .entry)) (now (coverings .entry))) ⌝ }
-{
-    let area = width * height;
-    let blocks = places::checks::count_blocks(levels, height, width);
-    (plane.len() == area) & (coverings.len() == blocks)
-}
-
 // The checks of join. Document 02, wish 8: "Each check takes the left strip, then the right, before the next check; 3 then looks at the joined slices."
 fn join_checks(
     left_height: usize,
@@ -168,21 +158,21 @@ fn join_checks(
     if let Answer::Refused(r) = paired {
         return Answer::Refused(r);
     }
-    let framed = is_framed(
+    let framed = coder::is_framed(
         left_height,
         left_width,
         left_levels,
         left_plane,
         left_coverings,
     )
-        & (is_framed(
+        & (coder::is_framed(
             right_height,
             right_width,
             right_levels,
             right_plane,
             right_coverings,
         )
-            & is_framed(
+            & coder::is_framed(
                 left_height,
                 left_width + left_width,
                 left_levels,

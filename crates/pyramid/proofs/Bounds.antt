@@ -116,7 +116,7 @@ rounded R y = let z = pos 2 *ℤ y +ℤ pos (4 ^ R) in (shr-low (2 * 4 ^ R) z ev
     even = let h = one-le-pow R 4 (omega arith) in omega arith
 
 -- exact restoring, of samples
-getD-map : {A B : Type 0} (f : A → B) (l : List A) (a : A) (b : B) (n : ℕ) → n < length l → getD (map f l) n b ≡ f (getD l n a)
+pub getD-map : {A B : Type 0} (f : A → B) (l : List A) (a : A) (b : B) (n : ℕ) → n < length l → getD (map f l) n b ≡ f (getD l n a)
 getD-map f [] a b n h = absurd (omega arith)
 getD-map f (x ∷ l) a b zero h = refl
 getD-map f (x ∷ l) a b (suc n) h = getD-map f l a b n (omega arith)

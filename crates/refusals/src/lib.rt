@@ -21,6 +21,7 @@ pub enum Refusal {
     Listing, // 14, list
     Mismatch, // 15, mismatch
     JoinedWidth, // 16, joined width
+    Window, // 17, window
 }
 
 // The answer of an entry that gives nothing but what it leaves in the slices.
@@ -56,6 +57,7 @@ pub fn number(r: Refusal) -> u8
         Refusal::Listing => 14,
         Refusal::Mismatch => 15,
         Refusal::JoinedWidth => 16,
+        Refusal::Window => 17,
     }
 }
 

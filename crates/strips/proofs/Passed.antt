@@ -1,27 +1,28 @@
 -- The joined strip passes the checks that the two strips pass. Assumes nothing.
 use mathlib.Core.Path.{_≡_, refl, ap, _∙_, subst⁻¹}
-use mathlib.Core.Bool.{Bool}
+use mathlib.Core.Bool.{Bool, true}
 use mathlib.Core.List.{List}
 use Prim.Native.Nat.{ℕ, zero, suc, _+_, _^_, _<_, _≤_}
 use native.Mathlib.Omega.{arith}
 use native.Mathlib.Decide.{decLt}
+use borrow.Author.Tests.{eqb-true}
 use lib.Dec.{T}
 use lib.IntN.{ℤ}
 use lib.ListN.{length, getD}
 use Rattle.integers.specs.Lists.{every}
-use Rattle.integers.proofs.Tests.{is-true, every-at, every-of}
+use Rattle.integers.proofs.Tests.{is-true, both, both-true, eq→eqb, every-at, every-of}
 use Rattle.coverings.specs.Entry.{isNumber}
 use Rattle.coverings.proofs.Checks.{number-at, every-number}
 use Rattle.pyramid.specs.Plane.{Image, Fits, allBlocks, halved, Numbers, listed}
 use Rattle.pyramid.specs.Places.{Place, placeAt, noPlace, placesFrom, planePlaces, at}
 use Rattle.pyramid.specs.Ranges.{fitsRange, inRange}
-use Rattle.pyramid.specs.Sides.{Side, isSides, isDepth}
+use Rattle.pyramid.specs.Sides.{Side, isSides, isDepth, isPlane, isCoverings}
 use Rattle.pyramid.specs.Slices.{imageOf, sliceOf}
 use Rattle.pyramid.proofs.Order.{plane-inside}
 use Rattle.pyramid.proofs.Sides.{size-laws}
 use Rattle.pyramid.proofs.Slices.{image-slice, slice-length}
 use Rattle.strips.specs.Join.{joined, joinedCovers, joinedOf}
-use Rattle.strips.specs.Strip.{stripOf, Passes}
+use Rattle.strips.specs.Strip.{Strip, stripOf, isFramed, Framed, Passes}
 use Rattle.strips.proofs.Beside.{wide-fits, level-columns}
 use Rattle.strips.proofs.Covers.{joined-length, joined-numbers}
 use Rattle.strips.proofs.Placed.{joined-all}
@@ -57,6 +58,13 @@ joined-range (suc R) h w f p q a b =
 -- coverings that pass check 5 are numbers
 pub of-test : (n : ℕ) (cs : List ℕ) → length cs ≡ n → T (every isNumber cs) → Numbers n (listed cs)
 of-test n cs e t k l = number-at cs k (is-true (every isNumber cs) t) (omega arith)
+
+-- check 3 of one strip, as facts
+pub framed-of : (s : Strip) → Framed s → T (isFramed s)
+framed-of s f = both (isPlane (s .height) (s .width) (s .plane)) (isCoverings (s .levels) (s .height) (s .width) (s .coverings)) (eq→eqb (f .0)) (eq→eqb (f .1))
+
+pub of-framed : (s : Strip) → isFramed s ≡ true → Framed s
+of-framed s e = let b = both-true (isPlane (s .height) (s .width) (s .plane)) (isCoverings (s .levels) (s .height) (s .width) (s .coverings)) e in (eqb-true _ _ (b .0), eqb-true _ _ (b .1))
 
 -- twice a side is the next one, up to 512
 twice-side : {n : ℕ} (s : Side n) → n + n ≤ 512 → (t : Side (n + n)) × (t .log ≡ suc (s .log))

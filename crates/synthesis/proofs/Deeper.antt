@@ -1,73 +1,23 @@
--- Restoring level by level: where the levels behind the first d lie, how large their numerators are, and what one level more leaves. Assumes nothing.
-use mathlib.Core.Path.{_≡_, refl, sym, ap, _∙_, subst, subst⁻¹, fun-ext}
-use mathlib.Core.Bool.{false}
+-- Restoring level by level: what one level more leaves. Assumes nothing.
+use mathlib.Core.Path.{_≡_, refl, sym, ap, _∙_, subst, subst⁻¹}
 use mathlib.Core.List.{List}
 use Prim.Native.Nat.{ℕ, zero, suc, _+_, _*_, _-_, _/_, _%_, _^_, _<_, _≤_}
-use native.Mathlib.Nat.{pow-succ', div-div-eq-div-mul, div-one, mul-le-mul, mul-le-mul-right, le-refl, mod-lt, div-lt-iff-lt-mul, div-add-mod'}
+use native.Mathlib.Nat.{mul-le-mul-right, mod-lt, div-lt-iff-lt-mul, div-add-mod'}
 use native.Mathlib.Omega.{arith}
 use lib.IntN.{ℤ, pos, natAbs, _*ℤ_}
 use lib.ListN.{length, getD}
 use lib.Seq.{ext-getD}
-use Rattle.integers.proofs.Bound.{abs-mul}
 use Rattle.slices.specs.Stores.{rectangles}
 use Rattle.slices.proofs.Stores.{rectangles-in, rectangles-out}
 use Rattle.pyramid.specs.Plane.{Image, Fits, Numbers, blocks, allBlocks, halved, top, left, band, withLow, after, listed, mergeOf, numerators}
-use Rattle.pyramid.specs.Places.{Place, placesFrom, at}
 use Rattle.pyramid.specs.Slices.{imageOf, numeratorsOf}
 use Rattle.synthesis.specs.Synthesis.{weightedBands, mergedBlock, putColumns, Level, Restorable}
 use Rattle.pyramid.proofs.Levels.{merge-cong}
 use Rattle.pyramid.proofs.Pyramid.{top-below, left-below}
-use Rattle.pyramid.proofs.Places.{All, of-places}
-use Rattle.pyramid.proofs.Bounds.{bounded, low-size, tetrolet-size, bounds}
+use Rattle.pyramid.proofs.Ranges.{halved-le}
+use Rattle.pyramid.proofs.Behind.{halved-suc, halved-shift, fits-behind, blocks-behind, next-blocks, next-after, numbers-behind, values-all, value-small, counted-small, four-most}
 use Rattle.pyramid.proofs.Slices.{slice-at, slice-length}
-use Rattle.synthesis.proofs.Counted.{four-most}
 use Rattle.synthesis.proofs.Merging.{merged-at}
-
--- ---- the levels behind the first d
-pub halved-suc : (d h : ℕ) → halved (suc d) h ≡ halved d h / 2
-halved-suc zero h = refl
-halved-suc (suc d) h = halved-suc d (h / 2)
-
-pub halved-shift : (d h : ℕ) → h / 2 ^ d ≡ halved d h
-halved-shift zero h = div-one h
-halved-shift (suc d) h = ap (λ (n : ℕ). h / n) (pow-succ' 2 d) ∙ sym (div-div-eq-div-mul h 2 (2 ^ d)) ∙ halved-shift d (h / 2)
-
-halved-most : (d h : ℕ) → halved d h ≤ h
-halved-most zero h = le-refl h
-halved-most (suc d) h = omega (arith, halved-most d (h / 2))
-
-halved-all : (d t R h : ℕ) → d + t ≡ R → halved t (halved d h) ≡ halved R h
-halved-all zero t R h e = let q : t ≡ R = omega arith in ap (λ (n : ℕ). halved n h) q
-halved-all (suc d) t zero h e = absurd (omega arith)
-halved-all (suc d) t (suc R) h e = halved-all d t R (h / 2) (omega arith)
-
-fits-behind : (d t R h w : ℕ) → d + t ≡ R → Fits R h w → Fits t (halved d h) (halved d w)
-fits-behind zero t R h w e f = let q : R ≡ t = omega arith in subst (λ (n : ℕ). Fits n h w) q f
-fits-behind (suc d) t zero h w e f = absurd (omega arith)
-fits-behind (suc d) t (suc R) h w e f = fits-behind d t R (h / 2) (w / 2) (omega arith) (f .2)
-
-pub blocks-behind : (d t R h w : ℕ) → d + t ≡ R → allBlocks R h w ≡ allBlocks d h w + allBlocks t (halved d h) (halved d w)
-blocks-behind zero t R h w e = let q : R ≡ t = omega arith in omega (arith, ap (λ (n : ℕ). allBlocks n h w) q)
-blocks-behind (suc d) t zero h w e = absurd (omega arith)
-blocks-behind (suc d) t (suc R) h w e = omega (arith, blocks-behind d t R (h / 2) (w / 2) (omega arith))
-
-places-behind : (Q : Place → Type 0) (d t R e D h w : ℕ) → d + t ≡ R → e + d ≡ D → All (λ n p. Q p) (placesFrom false e R h w) → All (λ n p. Q p) (placesFrom false D t (halved d h) (halved d w))
-places-behind Q zero t R e D h w p q a =
-    let i : R ≡ t = omega arith in
-    let j : e ≡ D = omega arith in
-    subst (λ (n : ℕ). All (λ n p. Q p) (placesFrom false n t h w)) j (subst (λ (n : ℕ). All (λ n p. Q p) (placesFrom false e n h w)) i a)
-places-behind Q (suc d) t zero e D h w p q a = absurd (omega arith)
-places-behind Q (suc d) t (suc R) e D h w p q a = places-behind Q d t R (suc e) D (h / 2) (w / 2) (omega arith) (omega arith) (of-places Q e R h w a .1)
-
--- one level's blocks, and what is behind them
-pub next-blocks : (d h w : ℕ) → allBlocks (suc d) h w ≡ allBlocks d h w + blocks (halved d h) (halved d w)
-next-blocks d h w = omega (arith, blocks-behind d 1 (suc d) h w (omega arith))
-
-next-after : (d h w : ℕ) (cs : ℕ → ℕ) → after (allBlocks (suc d) h w) cs ≡ after (blocks (halved d h) (halved d w)) (after (allBlocks d h w) cs)
-next-after d h w cs = fun-ext (λ k. ap cs (same k))
-  where
-    same : (k : ℕ) → allBlocks (suc d) h w + k ≡ allBlocks d h w + (blocks (halved d h) (halved d w) + k)
-    same k = omega (arith, next-blocks d h w)
 
 -- the bands 1 to 3 lie outside the low-pass
 beyond : (tall wide b y x : ℕ) → suc b < 4 → top tall (suc b) + y < tall / 2 → left wide (suc b) + x < wide / 2 → ⊥
@@ -81,34 +31,7 @@ pub record Reached (h w d t : ℕ) (cs : List ℕ) (P A : Image) : Type 0 where
   pub inside : (y x : ℕ) → y < halved d h → x < halved d w → A y x ≡ numerators t (halved d h) (halved d w) (after (allBlocks d h w) (listed cs)) P y x
   pub outside : (y x : ℕ) → y < h → x < w → (y < halved d h → x < halved d w → ⊥) → A y x ≡ P y x
 
-limit : (p t : ℕ) → p ≤ 65536 → t ≤ 8 → 4095 * p * (2 + 3 * t) ≤ 4095 * 65536 * 26
-limit p t k l = mul-le-mul (mul-le-mul (le-refl 4095) k) (most l)
-  where
-    most : t ≤ 8 → 2 + 3 * t ≤ 26
-    most l = omega arith
-
 module _ {R h w : ℕ} {cs : List ℕ} {plane : List ℤ} (p : Restorable R h w cs plane) where
-  numbers-behind : (d t : ℕ) → d + t ≡ R → Numbers (allBlocks t (halved d h) (halved d w)) (after (allBlocks d h w) (listed cs))
-  numbers-behind d t e k l = p .numbers (allBlocks d h w + k) (omega (arith, blocks-behind d t R h w e))
-
-  abbrev Counted : Place → Type 0
-  Counted q = 2 * (4 ^ (R - q .level) * natAbs (at (imageOf h plane) q)) ≤ 4095 * 4 ^ R
-
-  -- ---- sizes
-  numerator-size : (d t : ℕ) → d + t ≡ R → (y x : ℕ) → y < halved d h → x < halved d w
-      → 2 * natAbs (numerators t (halved d h) (halved d w) (after (allBlocks d h w) (listed cs)) (imageOf h plane) y x) ≤ 4095 * 4 ^ R * (2 + 3 * t)
-  numerator-size d t e =
-      bounded d t R (halved d h) (halved d w) (4095 * 4 ^ R) e (fits-behind d t R h w e (p .fits)) (after (allBlocks d h w) (listed cs)) (numbers-behind d t e) (imageOf h plane)
-      (λ y x k l. low-size R h w (imageOf h plane) (p .range) y x (omega (arith, halved-all d t R h e)) (omega (arith, halved-all d t R w e)))
-      (places-behind Counted d t R 0 d h w e (omega arith) (tetrolet-size R h w (imageOf h plane) (p .range)))
-
-  coefficient-size : (d t : ℕ) → d + suc t ≡ R → (b y x : ℕ) → b < 3 → y < halved d h / 2 → x < halved d w / 2
-      → 2 * (4 ^ t * natAbs (band (halved d h) (halved d w) (imageOf h plane) (suc b) y x)) ≤ 4095 * 4 ^ R
-  coefficient-size d t e b y x c k l =
-      let q : R - suc d ≡ t = omega arith in
-      subst (λ (n : ℕ). 2 * (4 ^ n * natAbs (band (halved d h) (halved d w) (imageOf h plane) (suc b) y x)) ≤ 4095 * 4 ^ R) q
-      (of-places Counted d t (halved d h) (halved d w) (places-behind Counted d (suc t) R 0 d h w e (omega arith) (tetrolet-size R h w (imageOf h plane) (p .range))) .0 b y x c k l)
-
   -- ---- one level more
   module _ (d t : ℕ) (e : suc d + t ≡ R) (A : Image) (r : Reached h w (suc d) t cs (imageOf h plane) A) where
     level-fits : Fits (suc t) (halved d h) (halved d w)
@@ -123,8 +46,8 @@ module _ {R h w : ℕ} {cs : List ℕ} {plane : List ℤ} (p : Restorable R h w 
     band-is : (b y x : ℕ) → suc b < 4 → y < halved d h / 2 → x < halved d w / 2 → band (halved d h) (halved d w) A (suc b) y x ≡ band (halved d h) (halved d w) (imageOf h plane) (suc b) y x
     band-is b y x c k l =
         r .outside (top (halved d h) (suc b) + y) (left (halved d w) (suc b) + x)
-        (omega (arith, top-below (halved d h) (suc b) y (level-fits .0) k, halved-most d h))
-        (omega (arith, left-below (halved d w) (suc b) x (level-fits .1) l, halved-most d w))
+        (omega (arith, top-below (halved d h) (suc b) y (level-fits .0) k, halved-le d h))
+        (omega (arith, left-below (halved d w) (suc b) x (level-fits .1) l, halved-le d w))
         (λ i j. beyond (halved d h) (halved d w) b y x c (omega (arith, halved-suc d h)) (omega (arith, halved-suc d w)))
 
     pub reach-more : (B : Image)
@@ -140,7 +63,7 @@ module _ {R h w : ℕ} {cs : List ℕ} {plane : List ℤ} (p : Restorable R h w 
     }
       where
         first : Numbers (blocks (halved d h) (halved d w)) (after (allBlocks d h w) (listed cs))
-        first k l = numbers-behind d (suc t) (omega arith) k (omega arith)
+        first k l = numbers-behind d (suc t) R h w (listed cs) (omega arith) (p .numbers) k (omega arith)
 
         bands : ℕ → Image
         bands = withLow (numerators t (halved d h / 2) (halved d w / 2) (after (blocks (halved d h) (halved d w)) (after (allBlocks d h w) (listed cs))) (imageOf h plane)) (λ b y x. pos (4 ^ t) *ℤ band (halved d h) (halved d w) (imageOf h plane) b y x)
@@ -152,22 +75,21 @@ module _ {R h w : ℕ} {cs : List ℕ} {plane : List ℤ} (p : Restorable R h w 
     small-bands : (b y x : ℕ) → b < 4 → y < halved d h / 2 → x < halved d w / 2 → natAbs (weightedBands (4 ^ t) (halved d h) (halved d w) A b y x) ≤ 2 ^ 40
     small-bands zero y x c k l =
         subst⁻¹ (λ (z : ℤ). natAbs z ≤ 2 ^ 40) (r .inside y x (omega (arith, halved-suc d h)) (omega (arith, halved-suc d w)))
-        (omega (arith, numerator-size (suc d) t e y x (omega (arith, halved-suc d h)) (omega (arith, halved-suc d w)), limit (4 ^ R) t (four-most R (p .most)) (omega (arith, p .most))))
+        (omega (arith, value-small R h w (listed cs) (imageOf h plane) (p .most) (p .fits) (p .numbers) (p .range) (suc d) t e y x (omega (arith, halved-suc d h)) (omega (arith, halved-suc d w))))
     small-bands (suc b) y x c k l =
         subst⁻¹ (λ (z : ℤ). natAbs z ≤ 2 ^ 40) (ap (λ (z : ℤ). pos (4 ^ t) *ℤ z) (band-is b y x c k l))
-        (subst⁻¹ (λ (n : ℕ). n ≤ 2 ^ 40) (abs-mul (pos (4 ^ t)) (band (halved d h) (halved d w) (imageOf h plane) (suc b) y x))
-        (omega (arith, coefficient-size d t (omega arith) b y x (omega arith) k l, four-most R (p .most))))
+        (counted-small R h w (listed cs) (imageOf h plane) (p .most) (p .fits) (p .numbers) (p .range) d t (omega arith) b y x (omega arith) k l)
 
   pub level-at : (d t : ℕ) → suc d + t ≡ R → (image : List ℤ) → length image ≡ w * h → Reached h w (suc d) t cs (imageOf h plane) (imageOf h image) → Level h (halved d h) (halved d w) (4 ^ t) (allBlocks d h w) cs image
   level-at d t e image len r = record {
     tallWhole = level-fits d t e (imageOf h image) r .0;
     wideWhole = level-fits d t e (imageOf h image) r .1;
-    inside = halved-most d h;
+    inside = halved-le d h;
     height = p .height;
-    width = omega (arith, halved-most d w, p .width);
-    long = omega (arith, mul-le-mul-right h (halved-most d w));
+    width = omega (arith, halved-le d w, p .width);
+    long = omega (arith, mul-le-mul-right h (halved-le d w));
     covered = omega (arith, next-blocks d h w, blocks-behind (suc d) t R h w e, p .covered);
-    numbers = λ k l. numbers-behind d (suc t) (omega arith) k (omega arith);
+    numbers = λ k l. numbers-behind d (suc t) R h w (listed cs) (omega arith) (p .numbers) k (omega arith);
     weight = omega (arith, four-most t (omega (arith, p .most)));
     small = small-bands d t e (imageOf h image) r;
   }
@@ -184,12 +106,9 @@ module _ {R h w : ℕ} {cs : List ℕ} {plane : List ℤ} (p : Restorable R h w 
       at-each k l =
           ap (λ (m : ℕ). getD n m (pos 0)) (sym (div-add-mod' k h))
           ∙ r .inside (k % h) (k / h) (mod-lt k high) ((div-lt-iff-lt-mul high) .1 l)
-          ∙ ap (λ (c : ℕ → ℕ). numerators R h w c (imageOf h plane) (k % h) (k / h)) (fun-ext (λ j. ap (listed cs) (none-before j)))
+          ∙ ap (λ (A : Image). A (k % h) (k / h)) (values-all R h w (listed cs) (imageOf h plane))
           ∙ sym (slice-at h w (numerators R h w (listed cs) (imageOf h plane)) k l)
         where
-          none-before : (j : ℕ) → 0 + j ≡ j
-          none-before j = omega arith
-
           high : 0 < h
           high = go h l
             where
@@ -200,8 +119,9 @@ module _ {R h w : ℕ} {cs : List ℕ} {plane : List ℤ} (p : Restorable R h w 
   -- the numerators are small
   pub numerators-small : (k : ℕ) → k < w * h → natAbs (getD (numeratorsOf R h w cs plane) k (pos 0)) ≤ 2 ^ 33
   numerators-small k l =
-      subst⁻¹ (λ (z : ℤ). natAbs z ≤ 2 ^ 33) (slice-at h w (numerators R h w (listed cs) (imageOf h plane)) k l)
-      (omega (arith, bounds R h w (p .fits) (listed cs) (p .numbers) (imageOf h plane) (p .range) (k % h) (k / h) (mod-lt k high) ((div-lt-iff-lt-mul high) .1 l), limit (4 ^ R) R (four-most R (p .most)) (p .most)))
+      subst⁻¹ (λ (z : ℤ). natAbs z ≤ 2 ^ 33)
+      (slice-at h w (numerators R h w (listed cs) (imageOf h plane)) k l ∙ ap (λ (A : Image). A (k % h) (k / h)) (sym (values-all R h w (listed cs) (imageOf h plane))))
+      (value-small R h w (listed cs) (imageOf h plane) (p .most) (p .fits) (p .numbers) (p .range) 0 R (omega arith) (k % h) (k / h) (mod-lt k high) ((div-lt-iff-lt-mul high) .1 l))
     where
       high : 0 < h
       high = go h l
@@ -244,8 +164,8 @@ module _ {R h w L tall wide first m d : ℕ} {cs : List ℕ} {plane : List ℤ} 
       let q : R - d ≡ suc (R - L) = omega (arith, u .is, u .within) in
       rw (q, u .tall-is, u .wide-is, u .first-is, u .weight-is)
       (reach-more p d (R - L) rest (imageOf h image) deeper _
-      (λ y x k l. rectangles-in from h (halved d h) (halved-most d h) image (halved d w) y x fit l k ∙ merged-at lv scratch (omega (arith, fit)) y x k l)
-      (λ y x k l other. rectangles-out from h (halved d h) (halved-most d h) image (halved d w) y x k (λ i j. other j i)))
+      (λ y x k l. rectangles-in from h (halved d h) (halved-le d h) image (halved d w) y x fit l k ∙ merged-at lv scratch (omega (arith, fit)) y x k l)
+      (λ y x k l other. rectangles-out from h (halved d h) (halved-le d h) image (halved d w) y x k (λ i j. other j i)))
     where
       lv : Level h (halved d h) (halved d w) (4 ^ (R - L)) (allBlocks d h w) cs image
       lv = level-at p d (R - L) rest image len deeper

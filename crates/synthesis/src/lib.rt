@@ -13,7 +13,7 @@ ghost use Rattle.grid.specs.Grid.{bandPlace};
 ghost use Rattle.synthesis.specs.Synthesis.{counted, weighted, mergedBlock, putBlock, putColumn, putColumns, Level, Restorable};
 
 // A low-pass result once, a tetrolet coefficient `weight` times.
-fn count(k: usize, z: i64, weight: u64) -> i64
+pub fn count(k: usize, z: i64, weight: u64) -> i64
     requires { ⌜ (weight ≤ 2 ^ 20) × (natAbs (counted weight k z) ≤ 2 ^ 40) ⌝ }
     ensures { λ r. ⌜ r ≡ counted weight k z ⌝ }
 {
@@ -228,7 +228,7 @@ fn synthesise(
 }
 
 // 4 to the power `levels`.
-fn power(levels: usize) -> u64
+pub fn power(levels: usize) -> u64
     requires { ⌜ levels ≤ 8 ⌝ }
     ensures { λ r. ⌜ r ≡ 4 ^ levels ⌝ }
 {
@@ -263,6 +263,15 @@ fn hold(n: i64) -> u16
     n as u16
 }
 
+// The sample of a numerator. `unit` is 4 to the power `levels`.
+// Two wrong answers that the contract rules out: the numerator held before it is rounded; and no half added.
+pub fn sample(y: i64, levels: usize, unit: u64) -> u16
+    requires { ⌜ (natAbs y ≤ 2 ^ 33) × (levels ≤ 8) × (unit ≡ 4 ^ levels) ⌝ }
+    ensures { λ r. ⌜ r ≡ sampleOf levels y ⌝ }
+{
+    hold(nearest_to(y, levels, unit))
+}
+
 // The samples of numerators. Two wrong answers that the contract rules out: no half added; and the last sample left as it was.
 fn round(numerators: &[i64], levels: usize, samples: &mut [u16])
     requires { ⌜ (levels ≤ 8) × (length (now samples) ≡ length (now numerators)) ⌝ }
@@ -272,7 +281,7 @@ fn round(numerators: &[i64], levels: usize, samples: &mut [u16])
     let unit = power(levels);
     let mut i: usize = 0;
     while i < samples.len() {
-        samples[i] = hold(nearest_to(numerators[i], levels, unit));
+        samples[i] = sample(numerators[i], levels, unit);
         i += 1;
     }
 }

@@ -9,7 +9,8 @@ use Rattle.refusals.proofs.After.{front-refused, front-passed}
 use Rattle.integers.proofs.Tests.{both-true}
 use Rattle.strips.specs.Strip.{Strip, stripOf, wideOf, isFramed, isNumbered, isRanged, Framed}
 use Rattle.joining.specs.Entries.{joinRefusal}
-use Rattle.joining.proofs.Gates.{Pair, pair-passed, of-framed}
+use Rattle.joining.proofs.Gates.{Pair, pair-passed}
+use Rattle.strips.proofs.Passed.{of-framed}
 use Rattle.joining.proofs.join_checks.Statement.{statement}
 use Rattle.joining.proofs.join_checks.Tie as tie
 

@@ -1,9 +1,9 @@
--- `joining::is_framed` meets its contract. Assumes nothing.
+-- `coder::is_framed` meets its contract. Assumes nothing.
 use native.Mathlib.Omega.{arith}
 use native.Mathlib.Nat.{mul-le-mul}
 use borrow.Author.Needs.{needs}
-use Rattle.joining.proofs.is_framed.Statement.{statement}
-use Rattle.joining.proofs.is_framed.Tie as tie
+use Rattle.coder.proofs.is_framed.Statement.{statement}
+use Rattle.coder.proofs.is_framed.Tie as tie
 
 mul-area : tie.Need-mul-area
 mul-area c = omega (arith, mul-le-mul (c .before .pre .1) (c .before .pre .0))

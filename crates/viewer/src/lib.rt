@@ -1,0 +1,298 @@
+// The window viewer: the samples of a window of the picture that a plane restores to. From the last level down, each block that touches the window is
+// restored by value, once; the others are passed over. Nothing but the window's slice is lent to be stored to.
+ghost use mathlib.Core.Path.{_≡_};
+ghost use Prim.Native.Nat.{ℕ, _+_, _*_, _-_, _/_, _^_, _<_, _≤_, min, max};
+ghost use lib.IntN.{pos, natAbs};
+ghost use lib.ListN.{length, getD};
+ghost use Rattle.refusals.specs.Refusal.{answerOf};
+ghost use Rattle.tables.specs.Tables.{cellTable};
+ghost use Rattle.pyramid.specs.Plane.{Image, halved};
+ghost use Rattle.pyramid.specs.Slices.{samplesOf};
+ghost use Rattle.pyramid.specs.Behind.{quadOf, blockList};
+ghost use Rattle.strips.specs.Strip.{stripOf};
+ghost use Rattle.synthesis.specs.Synthesis.{Restorable};
+ghost use Rattle.blockwise.specs.Node.{Block, behind};
+ghost use Rattle.viewer.specs.Window.{viewOf, isWithin, windowOf, windowRefusal, Viewed};
+ghost use Rattle.viewer.specs.Shown.{Inside, touching, rounded, sampleAt, Shown, Kept, Filled};
+ghost use Rattle.viewer.specs.Claims.{ViewerLaws};
+use blockwise::Node;
+use refusals::Answer;
+use refusals::Refusal;
+
+// A window: its first row and column, its height and width.
+pub struct View {
+    pub top: usize,
+    pub left: usize,
+    pub tall: usize,
+    pub wide: usize,
+}
+
+// The least number of cells of a window. With it stand the laws of windows.
+pub fn fewest_cells() -> usize
+    ensures { λ r. ⌜ (r ≡ 1) × ViewerLaws ⌝ }
+{
+    1
+}
+
+fn larger(a: usize, b: usize) -> usize
+    ensures { λ r. ⌜ r ≡ max a b ⌝ }
+{
+    if a < b { b } else { a }
+}
+
+fn smaller(a: usize, b: usize) -> usize
+    ensures { λ r. ⌜ r ≡ min a b ⌝ }
+{
+    if a < b { a } else { b }
+}
+
+// The block row that a row of the picture is in, and the block column of a column; d is the level less one.
+fn block_of(a: usize, d: usize) -> usize
+    requires { ⌜ d ≤ 8 ⌝ }
+    ensures { λ r. ⌜ r ≡ halved d (a / 4) ⌝ }
+{
+    (a / 4) >> d
+}
+
+// Whether a block touches the window.
+// Two wrong answers that the contract rules out: no for the block of the window's last row; and yes for every block.
+fn touches(v: View, d: usize, i: usize, j: usize) -> bool
+    requires { ⌜ (d ≤ 8) × Inside v 512 512 ⌝ }
+    ensures { λ r. ⌜ r ≡ touching v d i j ⌝ }
+{
+    if i < block_of(v.top, d) {
+        return false;
+    }
+    if block_of(v.top + v.tall - 1, d) < i {
+        return false;
+    }
+    if j < block_of(v.left, d) {
+        return false;
+    }
+    j <= block_of(v.left + v.wide - 1, d)
+}
+
+// The samples of column x, in block row i of the first level, as far as the window has them.
+// Two wrong answers that the contract rules out: the block's last row left out; and the numerators stored without rounding.
+fn store_column(
+    values: [i64; 16],
+    v: View,
+    i: usize,
+    x: usize,
+    levels: usize,
+    unit: u64,
+    samples: &mut [u16],
+)
+    requires { ⌜ Inside v 512 512 × (length (now samples) ≡ v .wide * v .tall) ⌝ }
+    requires { ⌜ (levels ≤ 8) × (unit ≡ 4 ^ levels) × (i ≤ 512) × (v .left ≤ x) × (x < v .left + v .wide) ⌝ }
+    requires { ⌜ ((a : ℕ) → a < 16 → natAbs (getD values a (pos 0)) ≤ 2 ^ 33) ⌝ }
+    ensures { λ _. ⌜ ((A : Image) → values ≡ blockList A i (x / 4) → Kept v (rounded levels A) (now (samples .entry)) (now (samples .exit)) × ((y : ℕ) → y / 4 ≡ i → Shown v (rounded levels A) (now (samples .exit)) y x)) ⌝ }
+{
+    let end = smaller(i * 4 + 4, v.top + v.tall);
+    let mut y = larger(i * 4, v.top);
+    while y < end {
+        let place = (x - v.left) * v.tall + (y - v.top);
+        samples[place] = synthesis::sample(values[x % 4 * 4 + y % 4], levels, unit);
+        y += 1;
+    }
+}
+
+// The samples of a block of the first level, as far as the window has them.
+fn store_block(
+    values: [i64; 16],
+    v: View,
+    i: usize,
+    j: usize,
+    levels: usize,
+    unit: u64,
+    samples: &mut [u16],
+)
+    requires { ⌜ Inside v 512 512 × (length (now samples) ≡ v .wide * v .tall) ⌝ }
+    requires { ⌜ (levels ≤ 8) × (unit ≡ 4 ^ levels) × (i ≤ 512) × (j ≤ 512) ⌝ }
+    requires { ⌜ ((a : ℕ) → a < 16 → natAbs (getD values a (pos 0)) ≤ 2 ^ 33) ⌝ }
+    ensures { λ _. ⌜ ((A : Image) → values ≡ blockList A i j → Filled v (rounded levels A) 0 i j (now (samples .entry)) (now (samples .exit))) ⌝ }
+{
+    let end = smaller(j * 4 + 4, v.left + v.wide);
+    let mut x = larger(j * 4, v.left);
+    while x < end {
+        store_column(values, v, i, x, levels, unit, samples);
+        x += 1;
+    }
+}
+
+// The samples of a block, as far as the window has them: none where it does not touch the window; those of its values at the first level; and those of its
+// four blocks below at any other.
+// Two wrong answers that the contract rules out: a block passed over that touches the window; and one block below left out.
+fn fill(
+    cells: &[u8; 1872],
+    plane: &[i64],
+    coverings: &[u8],
+    v: View,
+    k: Node,
+    low: [i64; 4],
+    unit: u64,
+    samples: &mut [u16],
+)
+    requires { ⌜ now cells ≡ cellTable ⌝ }
+    requires { ⌜ Restorable (k .levels) (k .height) (k .width) (now coverings) (now plane) × Block k × (unit ≡ 4 ^ k .levels) ⌝ }
+    requires { ⌜ low ≡ quadOf (behind k (k .level) (now coverings) (now plane)) (k .i) (k .j) ⌝ }
+    requires { ⌜ Inside v 512 512 × (length (now samples) ≡ v .wide * v .tall) ⌝ }
+    ensures { λ _. ⌜ Filled v (sampleAt (k .levels) (k .height) (k .width) (now (coverings .entry)) (now (plane .entry))) (k .level - 1) (k .i) (k .j) (now (samples .entry)) (now (samples .exit)) ⌝ }
+{
+    if !touches(v, k.level - 1, k.i, k.j) {
+        return;
+    }
+    let values = blockwise::values(cells, plane, coverings, k, low);
+    if k.level == 1 {
+        store_block(values, v, k.i, k.j, k.levels, unit, samples);
+        return;
+    }
+    let mut q: usize = 0;
+    while q < 4 {
+        let below = blockwise::child(k, q);
+        let quad = blockwise::quarter(values, q);
+        fill(cells, plane, coverings, v, below, quad, unit, samples);
+        q += 1;
+    }
+}
+
+// The samples of the blocks of block column j of the last level, as far as the window has them.
+fn fill_column(
+    cells: &[u8; 1872],
+    height: usize,
+    width: usize,
+    levels: usize,
+    plane: &[i64],
+    coverings: &[u8],
+    v: View,
+    j: usize,
+    unit: u64,
+    samples: &mut [u16],
+)
+    requires { ⌜ now cells ≡ cellTable ⌝ }
+    requires { ⌜ Restorable levels height width (now coverings) (now plane) × Inside v height width × (length (now samples) ≡ v .wide * v .tall) ⌝ }
+    requires { ⌜ (j < halved (levels - 1) width / 4) × (unit ≡ 4 ^ levels) ⌝ }
+    ensures { λ _. ⌜ Kept v (sampleAt levels height width (now (coverings .entry)) (now (plane .entry))) (now (samples .entry)) (now (samples .exit)) × ((y x : ℕ) → halved (levels - 1) (x / 4) ≡ j → Shown v (sampleAt levels height width (now (coverings .entry)) (now (plane .entry))) (now (samples .exit)) y x) ⌝ }
+{
+    let last = block_of(v.top + v.tall - 1, levels - 1);
+    let mut i = block_of(v.top, levels - 1);
+    while i <= last {
+        let k = blockwise::first_node(levels, height, width, coverings.len(), i, j);
+        let low = blockwise::last(plane, height, i, j);
+        fill(cells, plane, coverings, v, k, low, unit, samples);
+        i += 1;
+    }
+}
+
+// The samples of a window. Two wrong answers that the contract rules out: its last column left out; and the window stored along rows.
+fn window_all(
+    height: usize,
+    width: usize,
+    levels: usize,
+    plane: &[i64],
+    coverings: &[u8],
+    v: View,
+    samples: &mut [u16],
+)
+    requires { ⌜ Restorable levels height width (now coverings) (now plane) ⌝ }
+    requires { ⌜ Inside v height width × (length (now samples) ≡ v .wide * v .tall) ⌝ }
+    ensures { λ _. ⌜ now (samples .exit) ≡ windowOf height v (samplesOf levels height width (now (coverings .entry)) (now (plane .entry))) ⌝ }
+{
+    let cells = tables::cells();
+    let unit = synthesis::power(levels);
+    let last = block_of(v.left + v.wide - 1, levels - 1);
+    let mut j = block_of(v.left, levels - 1);
+    while j <= last {
+        fill_column(
+            &cells,
+            height,
+            width,
+            levels,
+            plane,
+            coverings,
+            v,
+            j,
+            unit,
+            samples,
+        );
+        j += 1;
+    }
+}
+
+// Whether `count` rows, or columns, from `first` on are one or more, and none of them is behind the last of `n`. No sum is formed, so none is too large.
+// Two wrong answers that the contract rules out: no for all `n` of them; and yes for a first one so large that the sum starts again at 0.
+fn is_within(n: usize, first: usize, count: usize) -> bool
+    ensures { λ r. ⌜ r ≡ isWithin n first count ⌝ }
+{
+    if count == 0 {
+        return false;
+    }
+    if n < count {
+        return false;
+    }
+    first <= n - count
+}
+
+// The checks of window. Document 02, wish 9: those of restoring without a list, and 17 "after 2 and before 3".
+fn window_checks(
+    height: usize,
+    width: usize,
+    levels: usize,
+    plane: &[i64],
+    coverings: &[u8],
+    v: View,
+    samples: &[u16],
+) -> Answer
+    ensures { λ r. ⌜ answerOf r ≡ windowRefusal (stripOf height width levels (now (plane .entry)) (now (coverings .entry))) v (now (samples .entry)) ⌝ }
+{
+    let sized = places::checks::size_checks(height, width, levels);
+    if let Answer::Refused(r) = sized {
+        return Answer::Refused(r);
+    }
+    let fits = is_within(height, v.top, v.tall) & is_within(width, v.left, v.wide);
+    if !fits {
+        return Answer::Refused(Refusal::Window);
+    }
+    let framed = coder::is_framed(height, width, levels, plane, coverings)
+        & (samples.len() == v.wide * v.tall);
+    if !framed {
+        return Answer::Refused(Refusal::Frame);
+    }
+    if !places::checks::all_numbers(coverings) {
+        return Answer::Refused(Refusal::Covering);
+    }
+    if !ranges::in_range(plane, height as u32, width as u32, levels as u32) {
+        return Answer::Refused(Refusal::Coefficient);
+    }
+    Answer::Done
+}
+
+// Restores the samples of a window, `tall` rows from `top` on and `wide` columns from `left` on, of the picture that a plane restores to.
+// Two wrong answers that the contract rules out: 17 for the whole picture; and the samples of the picture's first rows and columns.
+pub fn window(
+    height: usize,
+    width: usize,
+    levels: usize,
+    plane: &[i64],
+    coverings: &[u8],
+    top: usize,
+    left: usize,
+    tall: usize,
+    wide: usize,
+    samples: &mut [u16],
+) -> Answer
+    ensures { λ r. ⌜ Viewed (stripOf height width levels (now (plane .entry)) (now (coverings .entry))) (viewOf top left tall wide) (now (samples .entry)) (now (samples .exit)) (answerOf r) ⌝ }
+{
+    let v = View {
+        top,
+        left,
+        tall,
+        wide,
+    };
+    let found = window_checks(height, width, levels, plane, coverings, v, samples);
+    if let Answer::Refused(r) = found {
+        return Answer::Refused(r);
+    }
+    window_all(height, width, levels, plane, coverings, v, samples);
+    Answer::Done
+}
