@@ -2,18 +2,19 @@
 // restored by value, once; the others are passed over. Nothing but the window's slice is lent to be stored to.
 ghost use mathlib.Core.Path.{_≡_};
 ghost use Prim.Native.Nat.{ℕ, _+_, _*_, _-_, _/_, _^_, _<_, _≤_, min, max};
+ghost use lib.Dec.{T};
 ghost use lib.IntN.{pos, natAbs};
 ghost use lib.ListN.{length, getD};
 ghost use Rattle.refusals.specs.Refusal.{answerOf};
 ghost use Rattle.tables.specs.Tables.{cellTable};
 ghost use Rattle.pyramid.specs.Plane.{Image, halved};
-ghost use Rattle.pyramid.specs.Slices.{samplesOf};
+ghost use Rattle.pyramid.specs.Slices.{sampleOf, samplesOf};
 ghost use Rattle.pyramid.specs.Behind.{quadOf, blockList};
 ghost use Rattle.strips.specs.Strip.{stripOf};
 ghost use Rattle.synthesis.specs.Synthesis.{Restorable};
 ghost use Rattle.blockwise.specs.Node.{Block, behind};
 ghost use Rattle.viewer.specs.Window.{viewOf, isWithin, windowOf, windowRefusal, Viewed};
-ghost use Rattle.viewer.specs.Shown.{Inside, touching, rounded, sampleAt, Shown, Kept, Filled};
+ghost use Rattle.viewer.specs.Shown.{Inside, touching, holding, rounded, sampleAt, Shown, Kept, Filled};
 ghost use Rattle.viewer.specs.Claims.{ViewerLaws};
 use blockwise::Node;
 use refusals::Answer;
@@ -72,10 +73,30 @@ fn touches(v: View, d: usize, i: usize, j: usize) -> bool
     j <= block_of(v.left + v.wide - 1, d)
 }
 
+// The sample of a numerator, stored at the place that row y, column x of the picture has in the window.
+// Two wrong answers that the contract rules out: the numerator stored without rounding; and the window's rows and columns exchanged.
+fn store_cell(
+    numerator: i64,
+    v: View,
+    y: usize,
+    x: usize,
+    levels: usize,
+    unit: u64,
+    samples: &mut [u16],
+)
+    requires { ⌜ Inside v 512 512 × (length (now samples) ≡ v .wide * v .tall) ⌝ }
+    requires { ⌜ (v .top ≤ y) × (y < v .top + v .tall) × (v .left ≤ x) × (x < v .left + v .wide) ⌝ }
+    requires { ⌜ (levels ≤ 8) × (unit ≡ 4 ^ levels) × (natAbs numerator ≤ 2 ^ 33) ⌝ }
+    ensures { λ _. ⌜ ((g : ℕ → ℕ → ℕ) → sampleOf levels numerator ≡ g y x → Kept v g (now (samples .entry)) (now (samples .exit)) × Shown v g (now (samples .exit)) y x) ⌝ }
+{
+    let place = (x - v.left) * v.tall + (y - v.top);
+    samples[place] = synthesis::sample(numerator, levels, unit);
+}
+
 // The samples of column x, in block row i of the first level, as far as the window has them.
-// Two wrong answers that the contract rules out: the block's last row left out; and the numerators stored without rounding.
+// Two wrong answers that the contract rules out: the block's last row left out; and that of the next block besides.
 fn store_column(
-    values: [i64; 16],
+    values: &[i64; 16],
     v: View,
     i: usize,
     x: usize,
@@ -85,21 +106,20 @@ fn store_column(
 )
     requires { ⌜ Inside v 512 512 × (length (now samples) ≡ v .wide * v .tall) ⌝ }
     requires { ⌜ (levels ≤ 8) × (unit ≡ 4 ^ levels) × (i ≤ 512) × (v .left ≤ x) × (x < v .left + v .wide) ⌝ }
-    requires { ⌜ ((a : ℕ) → a < 16 → natAbs (getD values a (pos 0)) ≤ 2 ^ 33) ⌝ }
-    ensures { λ _. ⌜ ((A : Image) → values ≡ blockList A i (x / 4) → Kept v (rounded levels A) (now (samples .entry)) (now (samples .exit)) × ((y : ℕ) → y / 4 ≡ i → Shown v (rounded levels A) (now (samples .exit)) y x)) ⌝ }
+    requires { ⌜ ((a : ℕ) → a < 16 → natAbs (getD (now values) a (pos 0)) ≤ 2 ^ 33) ⌝ }
+    ensures { λ _. ⌜ ((A : Image) → now (values .entry) ≡ blockList A i (x / 4) → Kept v (rounded levels A) (now (samples .entry)) (now (samples .exit)) × ((y : ℕ) → y / 4 ≡ i → Shown v (rounded levels A) (now (samples .exit)) y x)) ⌝ }
 {
     let end = smaller(i * 4 + 4, v.top + v.tall);
     let mut y = larger(i * 4, v.top);
     while y < end {
-        let place = (x - v.left) * v.tall + (y - v.top);
-        samples[place] = synthesis::sample(values[x % 4 * 4 + y % 4], levels, unit);
+        store_cell(values[x % 4 * 4 + y % 4], v, y, x, levels, unit, samples);
         y += 1;
     }
 }
 
 // The samples of a block of the first level, as far as the window has them.
-fn store_block(
-    values: [i64; 16],
+fn store_part(
+    values: &[i64; 16],
     v: View,
     i: usize,
     j: usize,
@@ -109,8 +129,8 @@ fn store_block(
 )
     requires { ⌜ Inside v 512 512 × (length (now samples) ≡ v .wide * v .tall) ⌝ }
     requires { ⌜ (levels ≤ 8) × (unit ≡ 4 ^ levels) × (i ≤ 512) × (j ≤ 512) ⌝ }
-    requires { ⌜ ((a : ℕ) → a < 16 → natAbs (getD values a (pos 0)) ≤ 2 ^ 33) ⌝ }
-    ensures { λ _. ⌜ ((A : Image) → values ≡ blockList A i j → Filled v (rounded levels A) 0 i j (now (samples .entry)) (now (samples .exit))) ⌝ }
+    requires { ⌜ ((a : ℕ) → a < 16 → natAbs (getD (now values) a (pos 0)) ≤ 2 ^ 33) ⌝ }
+    ensures { λ _. ⌜ ((A : Image) → now (values .entry) ≡ blockList A i j → Filled v (rounded levels A) 0 i j (now (samples .entry)) (now (samples .exit))) ⌝ }
 {
     let end = smaller(j * 4 + 4, v.left + v.wide);
     let mut x = larger(j * 4, v.left);
@@ -118,6 +138,60 @@ fn store_block(
         store_column(values, v, i, x, levels, unit, samples);
         x += 1;
     }
+}
+
+// The same where the window has all of the block, as it has most blocks of a large window: sixteen stores in a row.
+fn store_whole(
+    values: &[i64; 16],
+    v: View,
+    i: usize,
+    j: usize,
+    levels: usize,
+    unit: u64,
+    samples: &mut [u16],
+)
+    requires { ⌜ Inside v 512 512 × (length (now samples) ≡ v .wide * v .tall) × T (holding v i j) ⌝ }
+    requires { ⌜ (levels ≤ 8) × (unit ≡ 4 ^ levels) × (i ≤ 512) × (j ≤ 512) ⌝ }
+    requires { ⌜ ((a : ℕ) → a < 16 → natAbs (getD (now values) a (pos 0)) ≤ 2 ^ 33) ⌝ }
+    ensures { λ _. ⌜ ((A : Image) → now (values .entry) ≡ blockList A i j → Filled v (rounded levels A) 0 i j (now (samples .entry)) (now (samples .exit))) ⌝ }
+{
+    let mut k: usize = 0;
+    while k < 16 {
+        store_cell(values[k], v, i * 4 + k % 4, j * 4 + k / 4, levels, unit, samples);
+        k += 1;
+    }
+}
+
+// Whether the window has all of a block of the first level.
+fn holds(v: View, i: usize, j: usize) -> bool
+    requires { ⌜ Inside v 512 512 × (i ≤ 512) × (j ≤ 512) ⌝ }
+    ensures { λ r. ⌜ r ≡ holding v i j ⌝ }
+{
+    let rows = (v.top <= i * 4) & (i * 4 + 4 <= v.top + v.tall);
+    let columns = (v.left <= j * 4) & (j * 4 + 4 <= v.left + v.wide);
+    rows & columns
+}
+
+// The samples of a block of the first level, by its values.
+fn store_block(
+    values: &[i64; 16],
+    v: View,
+    i: usize,
+    j: usize,
+    levels: usize,
+    unit: u64,
+    samples: &mut [u16],
+)
+    requires { ⌜ Inside v 512 512 × (length (now samples) ≡ v .wide * v .tall) ⌝ }
+    requires { ⌜ (levels ≤ 8) × (unit ≡ 4 ^ levels) × (i ≤ 512) × (j ≤ 512) ⌝ }
+    requires { ⌜ ((a : ℕ) → a < 16 → natAbs (getD (now values) a (pos 0)) ≤ 2 ^ 33) ⌝ }
+    ensures { λ _. ⌜ ((A : Image) → now (values .entry) ≡ blockList A i j → Filled v (rounded levels A) 0 i j (now (samples .entry)) (now (samples .exit))) ⌝ }
+{
+    if holds(v, i, j) {
+        store_whole(values, v, i, j, levels, unit, samples);
+        return;
+    }
+    store_part(values, v, i, j, levels, unit, samples);
 }
 
 // The samples of a block, as far as the window has them: none where it does not touch the window; those of its values at the first level; and those of its
@@ -144,7 +218,7 @@ fn fill(
     }
     let values = blockwise::values(cells, plane, coverings, k, low);
     if k.level == 1 {
-        store_block(values, v, k.i, k.j, k.levels, unit, samples);
+        store_block(&values, v, k.i, k.j, k.levels, unit, samples);
         return;
     }
     let mut q: usize = 0;
