@@ -140,7 +140,29 @@ fn store_part(
     }
 }
 
-// The same where the window has all of the block, as it has most blocks of a large window: sixteen stores in a row.
+// The samples of column x, in block row i of the first level, where the window has all four.
+fn store_four(
+    values: &[i64; 16],
+    v: View,
+    i: usize,
+    x: usize,
+    levels: usize,
+    unit: u64,
+    samples: &mut [u16],
+)
+    requires { ⌜ Inside v 512 512 × (length (now samples) ≡ v .wide * v .tall) ⌝ }
+    requires { ⌜ (levels ≤ 8) × (unit ≡ 4 ^ levels) × (i ≤ 512) × (v .left ≤ x) × (x < v .left + v .wide) × (v .top ≤ i * 4) × (i * 4 + 4 ≤ v .top + v .tall) ⌝ }
+    requires { ⌜ ((a : ℕ) → a < 16 → natAbs (getD (now values) a (pos 0)) ≤ 2 ^ 33) ⌝ }
+    ensures { λ _. ⌜ ((A : Image) → now (values .entry) ≡ blockList A i (x / 4) → Kept v (rounded levels A) (now (samples .entry)) (now (samples .exit)) × ((y : ℕ) → y / 4 ≡ i → Shown v (rounded levels A) (now (samples .exit)) y x)) ⌝ }
+{
+    let mut r: usize = 0;
+    while r < 4 {
+        store_cell(values[x % 4 * 4 + r], v, i * 4 + r, x, levels, unit, samples);
+        r += 1;
+    }
+}
+
+// The samples of a block of the first level that the window has all of, as it has most blocks where it is large: four columns of four, whatever the window.
 fn store_whole(
     values: &[i64; 16],
     v: View,
@@ -155,10 +177,10 @@ fn store_whole(
     requires { ⌜ ((a : ℕ) → a < 16 → natAbs (getD (now values) a (pos 0)) ≤ 2 ^ 33) ⌝ }
     ensures { λ _. ⌜ ((A : Image) → now (values .entry) ≡ blockList A i j → Filled v (rounded levels A) 0 i j (now (samples .entry)) (now (samples .exit))) ⌝ }
 {
-    let mut k: usize = 0;
-    while k < 16 {
-        store_cell(values[k], v, i * 4 + k % 4, j * 4 + k / 4, levels, unit, samples);
-        k += 1;
+    let mut c: usize = 0;
+    while c < 4 {
+        store_four(values, v, i, j * 4 + c, levels, unit, samples);
+        c += 1;
     }
 }
 
