@@ -43,7 +43,7 @@ static double now(void)
     return (double)t.tv_sec + (double)t.tv_nsec * 1e-9;
 }
 
-static uint16_t samples[2][TETROLET_MAX_AREA], image[TETROLET_MAX_AREA];
+static uint16_t samples[2][TETROLET_MAX_AREA], image[TETROLET_MAX_AREA], part[TETROLET_MAX_AREA];
 static int64_t plane[2][TETROLET_MAX_AREA], numerators[2][TETROLET_MAX_AREA], scratch[2][TETROLET_MAX_AREA];
 static uint8_t coverings[2][TETROLET_MAX_BLOCKS];
 static uint8_t buffer[2][TETROLET_MAX_SHEET];
@@ -99,6 +99,45 @@ static void agree_joined(size_t height, size_t width, size_t levels)
     }
     a = tetrolet_restore(height, width, levels, joined, area, c, blocks, numerators[1], area, samples[1], area, scratch[1], area);
     check(a == 0 && !memcmp(n, numerators[1], area * sizeof *n), "numerators of two strips and of the joined one", height, width, levels);
+}
+
+/* Windows of an image: 0 one cell, 1 to 3 squares, 4 all of it; not over its sides, and not at the corner where there is room. */
+#define WINDOWS 5
+struct window {
+    size_t top, left, tall, wide;
+};
+
+static size_t side_of(int k, size_t most)
+{
+    static const size_t sides[WINDOWS] = { 1, 16, 64, 256, 512 };
+    return sides[k] < most ? sides[k] : most;
+}
+
+static struct window window_of(int k, size_t height, size_t width)
+{
+    size_t tall = side_of(k, height), wide = side_of(k, width);
+    struct window w = { 37 % (height - tall + 1), 91 % (width - wide + 1), tall, wide };
+    return w;
+}
+
+/* Whether both restore windows alike, and as the restored image has them: those of the rows, and one at random. */
+static void agree_windows(size_t height, size_t width, size_t levels, const int64_t *p, const uint8_t *c, const uint16_t *whole)
+{
+    size_t area = height * width, blocks = tetrolet_blocks(height, width, levels);
+    for (int k = 0; k <= WINDOWS; k++) {
+        struct window w = { next() % height, next() % width, 0, 0 };
+        w.tall = 1 + next() % (height - w.top);
+        w.wide = 1 + next() % (width - w.left);
+        if (k < WINDOWS)
+            w = window_of(k, height, width);
+        size_t cells = w.tall * w.wide, same = 0;
+        uint32_t a = tetrolet_window(height, width, levels, p, area, c, blocks, w.top, w.left, w.tall, w.wide, samples[1], cells);
+        for (size_t n = 0; n < cells; n++)
+            same += samples[1][n] == whole[(w.left + n / w.tall) * height + w.top + n % w.tall];
+        check(a == 0 && same == cells, "window and image", height, width, levels);
+        uint32_t b = base_window(height, width, levels, p, area, c, blocks, w.top, w.left, w.tall, w.wide, part, cells);
+        check(b == 0 && !memcmp(samples[1], part, cells * sizeof *part), "windows", height, width, levels);
+    }
 }
 
 /* Whether both give the same, through all entries. Gives whether two strips were joined too. */
@@ -157,6 +196,7 @@ static int agree(size_t height, size_t width, size_t levels, int kind)
                             area, scratch[1], area);
     check(a == 0 && b == 0 && !memcmp(numerators[0], numerators[1], bytes) && !memcmp(samples[0], samples[1], area * sizeof(uint16_t))
               && !memcmp(scratch[0], scratch[1], bytes), "restorations with a list", height, width, levels);
+    agree_windows(height, width, levels, plane[0], coverings[0], samples[0]);
     uint32_t start = (uint32_t)next();
     a = tetrolet_test_image(height, width, start, samples[0], area);
     b = base_test_image(height, width, start, samples[1], area);
@@ -182,6 +222,7 @@ struct times {
     double decompose, straight, shared, within[TOLERANCES], within_straight[TOLERANCES], within_shared[TOLERANCES];
     double listed[LISTS], listed_straight[LISTS], listed_shared[LISTS], restore_listed, base_restore_listed; /* restored by sixteen */
     double restore, base_restore, keep, base_keep, write, digits, printed, read, base_read, usage, base_usage, test, base_test, join, base_join[2];
+    double window[WINDOWS], base_window[WINDOWS];
     double kept_write, kept_digits, kept_read, kept_base_read; /* of the plane that keep leaves */
 };
 
@@ -216,6 +257,12 @@ static struct times measure(size_t height, size_t width, size_t levels)
         TIME(t.decompose, tetrolet_decompose(height, width, levels, image, area, p, area, c, blocks, w, area));
         TIME(t.base_restore, base_restore(height, width, levels, p, area, c, blocks, n, area, samples[0], area, w, area));
         TIME(t.restore, tetrolet_restore(height, width, levels, p, area, c, blocks, n, area, samples[0], area, w, area));
+        for (int k = 0; k < WINDOWS; k++) {
+            struct window v = window_of(k, height, width);
+            size_t cells = v.tall * v.wide;
+            TIME(t.base_window[k], base_window(height, width, levels, p, area, c, blocks, v.top, v.left, v.tall, v.wide, samples[0], cells));
+            TIME(t.window[k], tetrolet_window(height, width, levels, p, area, c, blocks, v.top, v.left, v.tall, v.wide, samples[0], cells));
+        }
         memcpy(q, p, bytes);
         TIME(t.base_keep, base_keep(height, width, levels, q, area, area / 10, &left));
         memcpy(q, p, bytes);
@@ -254,7 +301,7 @@ static void line(const char *name, double ours, const char *form, double theirs,
     if (bar == 0)
         printf("%-11s %9.3f   %-9s %9.3f   %5.2f\n", name, ours, form, theirs, ours / theirs);
     else
-        printf("%-11s %9.3f   %-9s %9.3f   %5.2f   at most %.1f: %s\n", name, ours, form, theirs, ours / theirs, bar, ours / theirs <= bar ? "met" : "not met");
+        printf("%-11s %9.3f   %-9s %9.3f   %5.2f   at most %.2g: %s\n", name, ours, form, theirs, ours / theirs, bar, ours / theirs <= bar ? "met" : "not met");
 }
 
 static void columns(void)
@@ -285,6 +332,8 @@ static void strip(size_t height, size_t width, size_t levels)
     line("write", t.write, "digits", t.digits, 0);
     line("read", t.read, "plain", t.base_read, 0);
     line("join", t.join, "faster", faster(t.base_join[BASE_SINGLE], t.base_join[BASE_FOURS]), 0);
+    line("window 64", t.window[2], "descent", t.base_window[2], 0);
+    line("window all", t.window[4], "descent", t.base_window[4], 0);
 }
 
 #define SHEETS 20000
@@ -417,7 +466,7 @@ int main(int argc, char **argv)
                     joined += (size_t)agree(height, width, levels, kind);
                     strips += height != width;
                 }
-    printf("both agree on %zu images, %zu of them strips, and on %zu joined from two strips\n\n", images, strips, joined);
+    printf("both agree on %zu images, %zu of them strips, six windows of each, and on %zu joined from two strips\n\n", images, strips, joined);
 
     struct times t = measure(512, 512, 8);
     head(512, 512, 8);
@@ -448,6 +497,15 @@ int main(int argc, char **argv)
     line("join", t.join, "single", t.base_join[BASE_SINGLE], 0);
     line("join", t.join, "fours", t.base_join[BASE_FOURS], 0);
     line("join", t.join, "faster", faster(t.base_join[BASE_SINGLE], t.base_join[BASE_FOURS]), 1.3);
+    for (int k = 0; k < WINDOWS; k++) {
+        char name[32];
+        snprintf(name, sizeof name, "window %u", (unsigned)side_of(k, 512));
+        line(name, t.window[k], "descent", t.base_window[k], k < 3 ? 1.5 : 1.3);
+    }
+
+    printf("\nwindows of it beside the library's own restore, milliseconds\n");
+    line("window 64", t.window[2], "restore", t.restore, 1.0 / 3);
+    line("window 512", t.window[4], "restore", t.restore, 1.3);
 
     strip(512, 64, 5);
     strip(64, 512, 5);

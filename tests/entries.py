@@ -62,6 +62,10 @@ def of_joined_blocks(e):
     return 2 * blocks(*e["args"]["left"][:3])
 
 
+def of_window(e):
+    return area(e["args"]["win_height"], e["args"]["win_width"])
+
+
 def of_text(e):
     want = e.get("result", {}).get("tray", "")
     return len(want) if want else 64
@@ -147,6 +151,7 @@ FRAME = [Number("height"), Number("width"), Number("levels")]
 PLANE, COVERS = Slice("plane", "i64"), Slice("covers", "u8")
 SCRATCH = Slice("scratch", "i64", of_area)
 SAMPLES, LIST = Slice("samples", "u16"), Slice("mill", "u8")
+WINDOW = [Number("top"), Number("left"), Number("win_height"), Number("win_width")]
 DECOMPOSED = [Slice("plane", "i64", of_area), Slice("covers", "u8", of_blocks), SCRATCH]
 RESTORED = [Slice("numerators", "i64", of_area), Slice("samples", "u16", of_area), SCRATCH]
 
@@ -160,6 +165,7 @@ ENTRIES = {
     "keep": ("tetrolet_keep", FRAME + [Slice("plane", "i64", of_area), Number("quota", "u64"), Given("left")]),
     "cut": ("tetrolet_threshold", FRAME + [Slice("plane", "i64", of_area), Number("threshold", "u64"), Given("left")]),
     "join": ("tetrolet_join", [Strip("left"), Strip("right"), Slice("plane", "i64", of_joined_area), Slice("covers", "u8", of_joined_blocks)]),
+    "window": ("tetrolet_window", FRAME + [PLANE, COVERS] + WINDOW + [Slice("samples", "u16", of_window)]),
     "write": ("tetrolet_write", FRAME + [PLANE, COVERS, Text("tray", "u8", of_text), Given("length")]),
     "read": ("tetrolet_read", [Slice("text", "u8"), Slice("plane", "i64", of_sheet_area), Slice("covers", "u8", of_sheet_blocks), Given("height"), Given("width"), Given("levels")]),
     "usage": ("tetrolet_usage", [COVERS, Text("tray", "u8", of_text), Given("length")]),
