@@ -885,6 +885,124 @@ static void call_join(struct tally *t)
         restores_to_both(f, left, left_coverings, right, right_coverings, plane, coverings);
 }
 
+/* A run of rows, or of columns, that stands among n: all of them, one at an end, one, the last few, inside one block, or any. */
+static void good_run(size_t n, size_t *first, size_t *count)
+{
+    switch (below(8)) {
+    case 0:
+    case 1:
+        *first = 0;
+        *count = n;
+        break;
+    case 2:
+        *first = once_in(2) ? 0 : n - 1;
+        *count = 1;
+        break;
+    case 3:
+        *first = below(n);
+        *count = 1;
+        break;
+    case 4:
+        *first = below(n);
+        *count = n - *first;
+        break;
+    case 5:
+        *count = 1 + below(4);
+        *first = below(n / 4) * 4 + below(5 - *count);
+        break;
+    default:
+        *first = below(n);
+        *count = 1 + below(n - *first);
+    }
+}
+
+/* A run that does not: none, one too many, behind the last, sums that wrap to a good end, or very large numbers. Now and then it does all the same. */
+static void bad_run(size_t n, size_t *first, size_t *count)
+{
+    switch (below(9)) {
+    case 0: *count = 0; break;
+    case 1: *count = n - *first + 1; break;
+    case 2: *first = n - *count + 1; break;
+    case 3: *first = n; break;
+    case 4: /* the sum is at most n, modulo 2^64 */
+        *first = (size_t)0 - 1 - below(4);
+        *count = (size_t)0 - *first + below(n + 1);
+        break;
+    case 5:
+        *count = (size_t)0 - 1 - below(4);
+        *first = (size_t)0 - *count + below(n + 1);
+        break;
+    case 6: *first = once_in(2) ? SIZE_MAX : (size_t)1 << (10 + below(54)); break;
+    case 7: *count = once_in(2) ? SIZE_MAX : (size_t)1 << (10 + below(54)); break;
+    default: *count = n + 1 + below(n);
+    }
+}
+
+/* A window: its first row and column, its rows and its columns. */
+struct window {
+    size_t top, left, tall, wide;
+};
+
+/* A window of the image that the slices are made for; now and then one that does not fit, or that fits the turned image. */
+static struct window make_window(struct frame f)
+{
+    struct window w;
+    good_run(f.made_height, &w.top, &w.tall);
+    good_run(f.made_width, &w.left, &w.wide);
+    uint64_t kind = below(24);
+    if (kind < 4)
+        bad_run(f.made_height, &w.top, &w.tall);
+    if (kind == 0 || (kind >= 4 && kind < 7))
+        bad_run(f.made_width, &w.left, &w.wide);
+    if (kind == 7) {
+        good_run(f.made_width, &w.top, &w.tall);
+        good_run(f.made_height, &w.left, &w.wide);
+    }
+    return w;
+}
+
+/* The samples of an accepted window are those of the restored image at the same places. */
+static void is_window_of_image(struct frame f, struct window w, const struct slice *plane, const struct slice *coverings, const uint16_t *window)
+{
+    size_t n = plane->len;
+    int64_t *numerators = malloc(n * sizeof *numerators), *scratch = malloc(n * sizeof *scratch);
+    uint16_t *image = malloc(n * sizeof *image);
+    if (tetrolet_restore(f.height, f.width, f.levels, plane->lib, n, coverings->lib, coverings->len, numerators, n, image, n, scratch, n) != 0)
+        differ("the image of an accepted window is not restored");
+    for (size_t x = 0; x < w.wide; x++)
+        if (memcmp(window + x * w.tall, image + (w.left + x) * f.height + w.top, w.tall * sizeof *image) != 0)
+            differ("the samples of a window are not those of the image");
+    free(numerators);
+    free(scratch);
+    free(image);
+}
+
+static void call_window(struct tally *t)
+{
+    struct frame f = make_frame();
+    count_strip(t, f);
+    struct window w = make_window(f);
+    int small = w.tall <= 512 && w.wide <= 512;
+    struct slice *plane = lend(length_near(f.area), 8), *coverings = lend(length_near(f.blocks), 1),
+                 *samples = lend(length_near(small ? w.tall * w.wide : below(20)), 2);
+    fill_strip(plane, coverings, f);
+    settle();
+    uint32_t a = tetrolet_window(f.height, f.width, f.levels, plane->lib, plane->len, coverings->lib, coverings->len, w.top, w.left, w.tall, w.wide,
+                                 samples->lib, samples->len);
+    unchanged(plane);
+    unchanged(coverings);
+    if (asks_plain(f.area)) {
+        int64_t numerators[256], scratch[256];
+        uint16_t image[256];
+        compare_plain(t, a, plain_window(words, WORDS, f.height, f.width, f.levels, plane->plain, plane->len, coverings->plain, coverings->len, w.top,
+                                         w.left, w.tall, w.wide, samples->plain, samples->len, numerators, 256, image, 256, scratch, 256));
+    }
+    compare(t, a, base_window(f.height, f.width, f.levels, plane->base, plane->len, coverings->base, coverings->len, w.top, w.left, w.tall, w.wide,
+                              samples->base, samples->len));
+    if (a == 0)
+        is_window_of_image(f, w, plane, coverings, samples->lib);
+}
+
 /* A buffer for a text of n bytes: of that length, one more, one less, or any. */
 static struct slice *lend_buffer(size_t n)
 {
@@ -1034,6 +1152,7 @@ int main(int argc, char **argv)
         { call_keep, { "keep", 0, { 0 }, 0, 0, 0 } },
         { call_threshold, { "threshold", 0, { 0 }, 0, 0, 0 } },
         { call_join, { "join", 0, { 0 }, 0, 0, 0 } },
+        { call_window, { "window", 0, { 0 }, 0, 0, 0 } },
         { call_write, { "write", 0, { 0 }, 0, 0, 0 } },
         { call_read, { "read", 0, { 0 }, 0, 0, 0 } },
         { call_usage, { "usage", 0, { 0 }, 0, 0, 0 } },

@@ -157,7 +157,15 @@ fn store_four(
 {
     let mut r: usize = 0;
     while r < 4 {
-        store_cell(values[x % 4 * 4 + r], v, i * 4 + r, x, levels, unit, samples);
+        store_cell(
+            values[x % 4 * 4 + r],
+            v,
+            i * 4 + r,
+            x,
+            levels,
+            unit,
+            samples,
+        );
         r += 1;
     }
 }

@@ -85,8 +85,8 @@ returns : tie.Need-returns Inv-loop μ-loop
 returns c =
     let a = c .before .before .before .args in
     λ A e.
-        let p = c .before .loop .inv .2 A e in
-        (p .0, λ y q. let row : a .i * 4 + y % 4 ≡ y = omega arith in subst (λ (n : ℕ). Shown (a .v) (rounded (a .levels) A) (c .before .loop .samples) n (a .x)) row (p .1 (y % 4) (omega arith)))
+    let p = c .before .loop .inv .2 A e in
+    (p .0, λ y q. let row : a .i * 4 + y % 4 ≡ y = omega arith in subst (λ (n : ℕ). Shown (a .v) (rounded (a .levels) A) (c .before .loop .samples) n (a .x)) row (p .1 (y % 4) (omega arith)))
 
 pub store-four-spec : {M : Type 1} → statement M
 store-four-spec =

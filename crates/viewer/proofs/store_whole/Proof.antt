@@ -66,8 +66,8 @@ returns : tie.Need-returns Inv-loop μ-loop
 returns c =
     let a = c .before .before .before .args in
     λ A e.
-        let p = c .before .loop .inv .2 A e in
-        (p .0, λ y x f q. let column : a .j * 4 + x % 4 ≡ x = omega arith in subst (Shown (a .v) (rounded (a .levels) A) (c .before .loop .samples) y) column (p .1 (x % 4) (omega arith) y f))
+    let p = c .before .loop .inv .2 A e in
+    (p .0, λ y x f q. let column : a .j * 4 + x % 4 ≡ x = omega arith in subst (Shown (a .v) (rounded (a .levels) A) (c .before .loop .samples) y) column (p .1 (x % 4) (omega arith) y f))
 
 pub store-whole-spec : {M : Type 1} → statement M
 store-whole-spec =
