@@ -6,3 +6,4 @@ pub mod lists;
 pub mod safe;
 pub mod strips;
 pub mod tally;
+pub mod windows;

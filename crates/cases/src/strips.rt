@@ -116,6 +116,11 @@ fn lent(k: Case, flaw: usize) -> Case {
     t
 }
 
+// The strip with a flaw, but for what its slices hold.
+pub fn flawed_strip(k: Case, flaw: usize) -> Case {
+    lent(told(k, flaw), flaw)
+}
+
 // Flaws of what they hold.
 pub fn spoil(k: Case, flaw: usize, plane: &mut [i64], coverings: &mut [u8]) {
     match flaw {
@@ -153,7 +158,7 @@ fn wide(k: Case, flaw: usize) -> Case {
 // The call with a flaw of each strip and one of the joined slices, but for what the slices hold.
 pub fn flawed(j: Join, left: usize, right: usize, whole: usize) -> Join {
     let mut t = room(j, whole);
-    t.left = wide(lent(told(j.left, left), left), whole);
-    t.right = wide(lent(told(j.right, right), right), whole);
+    t.left = wide(flawed_strip(j.left, left), whole);
+    t.right = wide(flawed_strip(j.right, right), whole);
     t
 }

@@ -148,6 +148,42 @@ pub extern "C" fn plain_restore_listed(
     )
 }
 
+// The last three slices are room: of each the front part, as long as the picture, is used.
+#[no_mangle]
+pub extern "C" fn plain_window(
+    words: &[u8],
+    height: usize,
+    width: usize,
+    levels: usize,
+    plane: &[i64],
+    coverings: &[u8],
+    top: usize,
+    left: usize,
+    tall: usize,
+    wide: usize,
+    samples: &mut [u16],
+    numerators: &mut [i64],
+    picture: &mut [u16],
+    scratch: &mut [i64],
+) -> u32 {
+    plain::windows::window(
+        words,
+        height,
+        width,
+        levels,
+        plane,
+        coverings,
+        top,
+        left,
+        tall,
+        wide,
+        samples,
+        numerators,
+        picture,
+        scratch,
+    )
+}
+
 #[no_mangle]
 pub extern "C" fn plain_keep(
     height: usize,

@@ -180,7 +180,7 @@ fn cut(k: Case, plane: &mut [i64]) {
 }
 
 // The plane and the coverings of a strip.
-fn fill_strip(k: Case, plane: &mut [i64], coverings: &mut [u8]) {
+pub fn fill_strip(k: Case, plane: &mut [i64], coverings: &mut [u8]) {
     let n = k.n;
     fill(k, plane, coverings);
     if n <= plane.len() {

@@ -2,13 +2,14 @@
 // of both. A line for each group: its name, how many cases, how many of them both accept, how many of each are strips, whose height is not their width,
 // and whether the two agree everywhere, in the answer and in all that stands in the slices after. `within` decomposes with a tolerance; `within 0` has the
 // coder with tolerance 0 beside the coder without one. `listed` and `restore listed` have a list of coverings; `listed 117` has the coder with all 117 listed
-// beside the coder without a list. `join` joins two strips, and counts by the left one; `join flaws` has calls of which most are refused. Texts and words are
-// compared by `vectors_text`.
+// beside the coder without a list. `join` joins two strips, and counts by the left one; `window` restores a window of a picture. `join flaws` and `window flaws`
+// have calls of which most are refused. Texts and words are compared by `vectors_text`.
 mod generated;
 mod joins;
 mod marks;
 mod pictures;
 mod planes;
+mod windows;
 
 use cases::tally::tell;
 
@@ -26,6 +27,8 @@ fn tell_all(words: &[u8]) {
     tell(b"test image", generated::group());
     tell(b"join", joins::group());
     tell(b"join flaws", joins::flawed_group());
+    tell(b"window", windows::group(words));
+    tell(b"window flaws", windows::flawed_group(words));
 }
 
 fn main() {
