@@ -1,6 +1,6 @@
 /* A caller in C: decomposes a small strip, first with a tolerance and then without, to show how many different coverings a mill needs; keeps the best
-   coefficients, writes the sheet, reads it back and restores it; does the same with a list of sixteen coverings, to show how much farther the picture
-   is then. Then the strip as two halves, each decomposed and cut by itself, as a wide leaf is scanned: joined, they restore to the two side by side.
+   coefficients, writes the sheet, reads it back and restores it; looks at a window of it, which is restored alone; does the same with a list of sixteen
+   coverings, to show how much farther the picture is then. Then the strip as two halves, each decomposed and cut by itself, as a wide leaf is scanned: joined, they restore to the two side by side.
    Then what an installer runs: a test image, made from a number, goes there and back. */
 #include "sixteen.h"
 #include "tetrolet.h"
@@ -10,6 +10,9 @@
 #include <stdlib.h>
 
 enum { HEIGHT = 8, WIDTH = 32, LEVELS = 2, AREA = HEIGHT * WIDTH, BLOCKS = 2 * 8 + 4, QUOTA = 60, TOLERANCE = 16 };
+
+/* A window of it, which begins and ends inside blocks: its first row and column, its rows and its columns. */
+enum { TOP = 3, LEFT = 13, TALL = 4, WIDE = 6, CELLS = TALL * WIDE };
 
 /* A half of it, left or right, and what it is cut to. */
 enum { HALF_WIDTH = WIDTH / 2, HALF = AREA / 2, HALF_BLOCKS = BLOCKS / 2, LEFT_QUOTA = 35, RIGHT_QUOTA = 25 };
@@ -51,6 +54,16 @@ static int same_numerators(const int64_t *a, const int64_t *b)
     int same = 0;
     for (int k = 0; k < AREA; k++)
         same += a[k] == b[k];
+    return same;
+}
+
+/* How many samples of the window are those of the image at the same places. */
+static int same_window(const uint16_t *window, const uint16_t *image)
+{
+    int same = 0;
+    for (int x = 0; x < WIDE; x++)
+        for (int y = 0; y < TALL; y++)
+            same += window[x * TALL + y] == image[(LEFT + x) * HEIGHT + TOP + y];
     return same;
 }
 
@@ -103,6 +116,11 @@ int main(void)
 
     long distance = squared_distance(samples, image);
     printf("restored: squared distance %ld over %d samples\n", distance, AREA);
+
+    static uint16_t window[CELLS];
+    accepted("window", tetrolet_window(height, width, levels, plane_read, AREA, coverings_read, BLOCKS, TOP, LEFT, TALL, WIDE, window, CELLS));
+    printf("window of height %d, width %d from row %d, column %d: %d of %d samples are those restored there\n", TALL, WIDE, TOP, LEFT,
+           same_window(window, samples), CELLS);
 
     accepted("decompose listed", tetrolet_decompose_listed(HEIGHT, WIDTH, LEVELS, 0, image, AREA, sixteen, sizeof sixteen, plane, AREA, coverings,
                                                            BLOCKS, scratch, AREA));

@@ -1,6 +1,6 @@
 // A caller in Rust: decomposes a small strip, first with a tolerance and then without, to show how many different coverings a mill needs; keeps the best
-// coefficients, writes the sheet, reads it back and restores it; does the same with a list of sixteen coverings, to show how much farther the picture
-// is then. Then the strip as two halves, each decomposed and cut by itself, as a wide leaf is scanned: joined, they restore to the two side by side.
+// coefficients, writes the sheet, reads it back and restores it; looks at a window of it, which is restored alone; does the same with a list of sixteen
+// coverings, to show how much farther the picture is then. Then the strip as two halves, each decomposed and cut by itself, as a wide leaf is scanned: joined, they restore to the two side by side.
 // Then what an installer runs: a test image, made from a number, goes there and back.
 // The functions below wrap the C entries in slices, so that lengths and pointers cannot be mistaken.
 
@@ -134,6 +134,21 @@ mod ffi {
             height: *mut usize,
             width: *mut usize,
             levels: *mut usize,
+        ) -> u32;
+        pub fn tetrolet_window(
+            height: usize,
+            width: usize,
+            levels: usize,
+            plane: *const i64,
+            plane_len: usize,
+            coverings: *const u8,
+            coverings_len: usize,
+            top: usize,
+            left: usize,
+            window_height: usize,
+            window_width: usize,
+            samples: *mut u16,
+            samples_len: usize,
         ) -> u32;
         pub fn tetrolet_test_image(
             height: usize,
@@ -328,7 +343,7 @@ fn keep(
     answer(n, left)
 }
 
-// A strip that is joined to another.
+// A plane with its coverings: a strip that is joined to another, or that a window is looked at of.
 struct Strip<'a> {
     height: usize,
     width: usize,
@@ -358,6 +373,35 @@ fn join(left: &Strip, right: &Strip, plane: &mut [i64], coverings: &mut [u8]) ->
             plane.len(),
             coverings.as_mut_ptr(),
             coverings.len(),
+        )
+    };
+    answer(n, ())
+}
+
+// A window of an image: its first row and column, its rows and its columns.
+struct Window {
+    top: usize,
+    left: usize,
+    tall: usize,
+    wide: usize,
+}
+
+fn window(strip: &Strip, w: &Window, samples: &mut [u16]) -> Answer<()> {
+    let n = unsafe {
+        ffi::tetrolet_window(
+            strip.height,
+            strip.width,
+            strip.levels,
+            strip.plane.as_ptr(),
+            strip.plane.len(),
+            strip.coverings.as_ptr(),
+            strip.coverings.len(),
+            w.top,
+            w.left,
+            w.tall,
+            w.wide,
+            samples.as_mut_ptr(),
+            samples.len(),
         )
     };
     answer(n, ())
@@ -421,6 +465,14 @@ const AREA: usize = HEIGHT * WIDTH;
 const BLOCKS: usize = 2 * 8 + 4;
 const QUOTA: u64 = 60;
 const TOLERANCE: u64 = 16;
+
+// A window of it, which begins and ends inside blocks.
+const WINDOW: Window = Window {
+    top: 3,
+    left: 13,
+    tall: 4,
+    wide: 6,
+};
 
 // A half of it, left or right, and what it is cut to.
 const HALF_WIDTH: usize = WIDTH / 2;
@@ -543,6 +595,12 @@ fn half<'a>(plane: &'a [i64], coverings: &'a [u8]) -> Strip<'a> {
     }
 }
 
+// The samples of an image at the places of a window.
+fn part(image: &[u16], height: usize, w: &Window) -> Vec<u16> {
+    let column = |x: usize| &image[x * height + w.top..][..w.tall];
+    (w.left..w.left + w.wide).flat_map(column).copied().collect()
+}
+
 fn squared_distance(a: &[u16], b: &[u16]) -> i64 {
     a.iter()
         .zip(b)
@@ -583,6 +641,27 @@ fn run() -> Answer<()> {
     let (_, samples) = restored(height, width, levels, &plane, &coverings)?;
     let distance = squared_distance(&image, &samples);
     println!("restored: squared distance {distance} over {AREA} samples");
+
+    let Window {
+        top,
+        left,
+        tall,
+        wide,
+    } = WINDOW;
+    let strip = Strip {
+        height,
+        width,
+        levels,
+        plane: &plane,
+        coverings: &coverings,
+    };
+    let mut seen = vec![0; tall * wide];
+    window(&strip, &WINDOW, &mut seen)?;
+    println!(
+        "window of height {tall}, width {wide} from row {top}, column {left}: {} of {} samples are those restored there",
+        same(&seen, &part(&samples, height, &WINDOW)),
+        seen.len()
+    );
 
     let (mut plane, coverings) = listed(&image, &SIXTEEN)?;
     keep(HEIGHT, WIDTH, LEVELS, &mut plane, QUOTA)?;

@@ -1,14 +1,16 @@
-/* Images in PGM files to sheets and back, two sheets joined, and test images.
+/* Images in PGM files to sheets and back, windows of sheets, two sheets joined, and test images.
 
    pgm to-sheet LEVELS QUOTA <in.pgm >out.sheet    P2 or P5, maxval up to 4095, of a height and a width that the library accepts
    pgm to-pgm [MAXVAL]       <in.sheet >out.pgm    P5; MAXVAL, 4095 where it is not given, is that of the original
+   pgm window TOP LEFT HEIGHT WIDTH [MAXVAL] <in.sheet >out.pgm    P5: the window alone, which is what to-pgm gives there
    pgm join LEFT RIGHT       >out.sheet            the sheets of two neighbouring strips; LEFT and RIGHT are file names
-   pgm columns FIRST COUNT   <in.pgm >out.pgm      a strip of an image: COUNT columns from FIRST on, which is 0 for the leftmost
+   pgm columns FIRST COUNT   <in.pgm >out.pgm      a strip of an image up to 512 by 512: COUNT columns from FIRST on, which is 0 for the leftmost
    pgm test-image HEIGHT WIDTH START >out.pgm      P5, maxval 4095; START is 0 to 4294967295
 
    A refusal is printed as the cutter prints it: `refusal`, then the number, and the exit status is 1. A file that is no PGM file is 9;
    a maxval over 4095 is 4. Their order is that of the cutter: 9 on the header, 1, 2, 9 on all that follows, 4, 7. To join, first the left
-   sheet is read, then the right one, each with the refusals of a sheet; then come those of joining. */
+   sheet is read, then the right one, each with the refusals of a sheet; then come those of joining. A window that has no cell or reaches past the
+   image is 17, after those of a sheet. */
 #include "image.h"
 #include "tetrolet.h"
 
@@ -26,6 +28,7 @@ static int refuse(uint32_t number)
 static int use(void)
 {
     fprintf(stderr, "use: pgm to-sheet LEVELS QUOTA <in.pgm >out.sheet\n     pgm to-pgm [MAXVAL] <in.sheet >out.pgm\n"
+                    "     pgm window TOP LEFT HEIGHT WIDTH [MAXVAL] <in.sheet >out.pgm\n"
                     "     pgm join LEFT RIGHT >out.sheet\n     pgm columns FIRST COUNT <in.pgm >out.pgm\n"
                     "     pgm test-image HEIGHT WIDTH START >out.pgm\n");
     return 2;
@@ -163,6 +166,21 @@ static int to_pgm(unsigned maxval)
     return 0;
 }
 
+/* Where the window does not fit its slice has no place, and the library says why. */
+static int window(size_t top, size_t left, size_t height, size_t width, unsigned maxval)
+{
+    struct strip *s = &strip;
+    size_t cells = height <= 512 && width <= 512 ? height * width : 0;
+    uint32_t n = take_sheet(stdin, s);
+    if (n == 0)
+        n = tetrolet_window(s->height, s->width, s->levels, s->plane, s->area, s->coverings, s->blocks, top, left, height, width, samples, cells);
+    if (n != 0)
+        return refuse(n);
+    if (!pgm_write(stdout, samples, height, width, maxval))
+        return fail("cannot write");
+    return 0;
+}
+
 /* Where the joined width is over 512 the joined strip has no room, and the library says why. */
 static int join(const char *left_name, const char *right_name)
 {
@@ -191,7 +209,7 @@ static int columns(unsigned long long first, unsigned long long count)
     struct pgm h;
     if (!read_all(stdin, MOST_BYTES, &bytes, &length) || !pgm_header(bytes, length, &h))
         return refuse(TETROLET_TEXT);
-    if (!are_sides(h.height, h.width))
+    if (h.height > 512 || h.width > 512)
         return refuse(TETROLET_SIDE);
     if (!pgm_samples(&h, samples))
         return refuse(TETROLET_TEXT);
@@ -216,13 +234,16 @@ static int test_image(unsigned long long height, unsigned long long width, uint3
 
 int main(int argc, char **argv)
 {
-    unsigned long long a = 0, b = 0, c = 0;
+    unsigned long long a = 0, b = 0, c = 0, d = 0, e = 4095;
     if (argc == 4 && !strcmp(argv[1], "to-sheet") && argument(argv[2], &a) && argument(argv[3], &b))
         return to_sheet(a, b);
     if (argc == 2 && !strcmp(argv[1], "to-pgm"))
         return to_pgm(4095);
     if (argc == 3 && !strcmp(argv[1], "to-pgm") && argument(argv[2], &a) && a >= 1 && a <= 4095)
         return to_pgm((unsigned)a);
+    if ((argc == 6 || argc == 7) && !strcmp(argv[1], "window") && argument(argv[2], &a) && argument(argv[3], &b) && argument(argv[4], &c)
+        && argument(argv[5], &d) && (argc == 6 || argument(argv[6], &e)) && e >= 1 && e <= 4095)
+        return window(a, b, c, d, (unsigned)e);
     if (argc == 4 && !strcmp(argv[1], "join"))
         return join(argv[2], argv[3]);
     if (argc == 4 && !strcmp(argv[1], "columns") && argument(argv[2], &a) && argument(argv[3], &b))

@@ -1,6 +1,6 @@
 #!/usr/bin/env bash
 # Builds the picture programs; makes the synthetic veneer and the picture of what a quota leaves of it, and compares both with those
-# kept here; turns the veneer, and two strips of it, into a sheet and back; makes a test image from a number, the one that every site has;
+# kept here; turns the veneer, and two strips of it, into a sheet and back; cuts windows out of its sheet; makes a test image from a number, the one that every site has;
 # prints what a tolerance and a list of coverings do to the veneer and to the test image; joins the sheets of the veneer's halves.
 # Needs a C compiler. With --built the library is taken as it stands.
 set -eu
@@ -26,6 +26,17 @@ cc $flags pictures/pgm.c pictures/image.c "$archive" -o target/pictures/pgm
 target/pictures/pgm to-sheet $levels $quota <pictures/veneer.pgm >target/pictures/veneer.sheet
 target/pictures/pgm to-pgm <target/pictures/veneer.sheet >target/pictures/kept.pgm
 echo "target/pictures/veneer.sheet: $(wc -c <target/pictures/veneer.sheet) bytes; target/pictures/kept.pgm: what a quota of $quota leaves"
+
+# Windows of the kept sheet: columns of it, and the part that the picture of the quota shows larger, by one window and by two.
+target/pictures/pgm window 0 100 $height 33 <target/pictures/veneer.sheet | cmp - <(target/pictures/pgm columns 100 33 <target/pictures/kept.pgm)
+target/pictures/pgm window 0 0 $height $width <target/pictures/veneer.sheet | cmp - target/pictures/kept.pgm
+target/pictures/pgm window 128 48 64 64 <target/pictures/veneer.sheet >target/pictures/window.pgm
+for at in '48 31' '79 33'; do
+    read -r left wide <<<"$at"
+    target/pictures/pgm columns $((left - 48)) $wide <target/pictures/window.pgm | cmp - <(target/pictures/pgm window 128 $left 64 $wide <target/pictures/veneer.sheet)
+done
+echo "target/pictures/window.pgm: 64 by 64 of it, restored alone; windows are what the whole sheet restores to at the same places"
+
 target/pictures/pgm to-sheet $levels $whole <pictures/veneer.pgm | target/pictures/pgm to-pgm | cmp - pictures/veneer.pgm
 echo "the whole quota, $whole, gives the picture back"
 
