@@ -1,5 +1,6 @@
-// The window viewer: the samples of a window of the picture that a plane restores to. From the last level down, each block that touches the window is
-// restored by value, once; the others are passed over. Nothing but the window's slice is lent to be stored to.
+// The window viewer, a product above the store: the samples of a window of the picture that a plane restores to. From the last level down, each block that
+// touches the window is restored by value, once; the others are passed over. Nothing but the window's slice is lent to be stored to. What the entry answers
+// and leaves is in specs/Window.antt; what is proved of it beside the store's restoring is `ViewerLaws` of specs/Claims.antt.
 ghost use mathlib.Core.Path.{_≡_};
 ghost use Prim.Native.Nat.{ℕ, _+_, _*_, _-_, _/_, _^_, _<_, _≤_, min, max};
 ghost use lib.Dec.{T};
