@@ -6,7 +6,6 @@ use Prim.Native.Nat.{ℕ, _+_, _*_, _≤_}
 use lib.IntN.{ℤ, pos}
 use lib.ListN.{length, replicate, length-replicate}
 use Rattle.refusals.specs.Refusal.{refuseIf, afterCall}
-use Rattle.refusals.proofs.After.{past}
 use Rattle.integers.proofs.Tests.{is-true, eq→eqb, false-at}
 use Rattle.terms.specs.Terms.{Terms}
 use Rattle.pyramid.specs.Plane.{allBlocks, Numbers, listed, Fits}

@@ -23,9 +23,9 @@ use Rattle.places.proofs.Sides.{size-past}
 use Rattle.coder.specs.Claims.{Left}
 use Rattle.coder.specs.Entries.{restoreRefusal}
 use Rattle.coder.proofs.Gates.{truth}
-use Rattle.viewer.specs.declared.View.{View}
+use Rattle.windows.specs.declared.View.{View}
 use Rattle.viewer.specs.Window.{isWithin, fitsWindow, windowOf, windowRefusal, Viewed}
-use Rattle.viewer.specs.Shown.{Inside}
+use Rattle.windows.specs.Shown.{Inside}
 use Rattle.viewer.specs.Claims.{Fitting, Exact, WindowChecks, ViewerLaws}
 use Rattle.viewer.proofs.Windows.{long, at, whole}
 

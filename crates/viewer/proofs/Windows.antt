@@ -13,13 +13,9 @@ use Rattle.pyramid.specs.Plane.{Image, listed, numerators}
 use Rattle.pyramid.specs.Slices.{imageOf, sliceOf, sampleOf, samplesOf}
 use Rattle.pyramid.proofs.Bounds.{getD-map}
 use Rattle.pyramid.proofs.Slices.{slice-length, image-slice}
-use Rattle.viewer.specs.declared.View.{View}
+use Rattle.windows.specs.declared.View.{View}
 use Rattle.viewer.specs.Window.{viewOf, windowOf}
-use Rattle.viewer.specs.Shown.{Inside, sampleAt, Shown}
-
--- a window that fits a picture fits the largest
-pub inside-most : (v : View) (h w : ℕ) → Inside v h w → h ≤ 512 → w ≤ 512 → Inside v 512 512
-inside-most v h w i a b = record { some-rows = i .some-rows; some-columns = i .some-columns; down = omega (arith, i .down); across = omega (arith, i .across) }
+use Rattle.windows.specs.Shown.{Inside, sampleAt, Shown}
 
 -- the sample in row y, column x of the slice
 sample-in : (R h w : ℕ) (cs : List ℕ) (plane : List ℤ) (y x : ℕ) → y < h → x < w → getD (samplesOf R h w cs plane) (x * h + y) 0 ≡ sampleAt R h w cs plane y x

@@ -8,7 +8,7 @@ use Rattle.terms.specs.Terms.{Terms}
 use Rattle.strips.specs.Strip.{Strip, stripOf, Sided, Deep, Framed, Numbered, Ranged, Passes}
 use Rattle.coder.specs.Claims.{Left}
 use Rattle.coder.specs.Entries.{restoreRefusal, Restored}
-use Rattle.viewer.specs.declared.View.{View}
+use Rattle.windows.specs.declared.View.{View}
 use Rattle.viewer.specs.Window.{viewOf, windowOf, windowRefusal, Viewed}
 
 -- What 17 asks, cell by cell: the window has one, and each of its cells is one of the picture's, of h rows and w columns.

@@ -11,7 +11,7 @@ use Rattle.pyramid.specs.Sides.{isPlane}
 use Rattle.pyramid.specs.Slices.{samplesOf}
 use Rattle.strips.specs.Strip.{Strip, isFramed, isNumbered, isRanged}
 use Rattle.places.specs.Sizes.{sizeRefusal}
-use Rattle.viewer.specs.declared.View.{View}
+use Rattle.windows.specs.declared.View.{View}
 
 -- Document 02, wish 9: a window is given "by top row, left column, height and width".
 abbrev pub viewOf : ℕ → ℕ → ℕ → ℕ → View

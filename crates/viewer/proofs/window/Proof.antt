@@ -3,9 +3,10 @@ use borrow.Author.Needs.{needs}
 use Rattle.refusals.proofs.After.{refused-by, passed-by}
 use Rattle.strips.specs.Strip.{Strip, stripOf}
 use Rattle.coder.proofs.Gates.{mergeable}
-use Rattle.viewer.specs.declared.View.{View}
+use Rattle.windows.specs.declared.View.{View}
 use Rattle.viewer.specs.Window.{viewOf}
 use Rattle.viewer.proofs.Gates.{Found, window-past, refuses}
+use Rattle.viewer.proofs.Windows.{window-is}
 use Rattle.viewer.proofs.window.Statement.{statement}
 use Rattle.viewer.proofs.window.Tie as tie
 
@@ -36,8 +37,8 @@ returns c = let g = c .before .found .given in refuses _ _ _ (g .0 .0) (refused-
 enum-told : tie.Need-enum-told
 enum-told c = search needs
 
-window-all-requires : tie.Need-window-all-requires
-window-all-requires c κs = let f = good (c .before) in (mergeable _ (f .passes), (f .inside, f .exact))
+fill-window-requires : tie.Need-fill-window-requires
+fill-window-requires c κs = let f = good (c .before) in (mergeable _ (f .passes), (f .inside, f .exact))
 
 same-length-2 : tie.Need-same-length-2
 same-length-2 c = search needs
@@ -45,7 +46,9 @@ same-length-2 c = search needs
 returns-2 : tie.Need-returns-2
 returns-2 c =
     let e = c .before .before .before .before in
-    record { number = passed-by (e .enum-told .given .1) (e .before .before .window-checks .ensures); image = c .before .before .window-all .ensures }
+    let s = e .before .before .before .before .before .before in
+    let w = c .before .before .fill-window .ensures in
+    record { number = passed-by (e .enum-told .given .1) (e .before .before .window-checks .ensures); image = window-is (view s) (s .args .levels) (s .args .height) (s .args .width) (s .args .coverings .now) (s .args .plane .now) _ (good e .inside) (w .0) (w .1) }
 
 pub window-spec : {M : Type 1} → statement M
 window-spec =
@@ -56,6 +59,6 @@ window-spec =
     same-length
     returns
     enum-told
-    window-all-requires
+    fill-window-requires
     same-length-2
     returns-2)

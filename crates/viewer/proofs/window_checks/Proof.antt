@@ -1,6 +1,6 @@
 -- `viewer::window_checks` meets its contract: the first two checks, then each return by what the tests before it found. Assumes nothing.
 use mathlib.Core.Path.{_≡_}
-use mathlib.Core.Bool.{true, not, _&&_}
+use mathlib.Core.Bool.{not, _&&_}
 use Prim.Native.Nat.{ℕ, _≤_}
 use native.Mathlib.Omega.{arith}
 use native.Mathlib.Nat.{mul-le-mul}
@@ -14,9 +14,9 @@ use Rattle.strips.specs.Strip.{Strip, stripOf, isFramed, isNumbered, isRanged, 
 use Rattle.strips.proofs.Passed.{of-framed}
 use Rattle.places.proofs.Sides.{Passed, size-passed}
 use Rattle.coder.proofs.Gates.{truth}
-use Rattle.viewer.specs.declared.View.{View}
+use Rattle.windows.specs.declared.View.{View}
 use Rattle.viewer.specs.Window.{fitsWindow, windowRefusal}
-use Rattle.viewer.specs.Shown.{Inside}
+use Rattle.windows.specs.Shown.{Inside}
 use Rattle.viewer.proofs.Gates.{inside}
 use Rattle.viewer.proofs.window_checks.Statement.{statement}
 use Rattle.viewer.proofs.window_checks.Tie as tie

@@ -1,14 +1,14 @@
--- `viewer::store_cell` meets its contract. Assumes nothing.
+-- `windows::store_cell` meets its contract. Assumes nothing.
 use mathlib.Core.Path.{ap, _∙_}
-use Prim.Native.Nat.{ℕ, _+_, _*_, _-_, _<_}
+use Prim.Native.Nat.{_+_, _*_, _-_, _<_}
 use native.Mathlib.Omega.{arith}
 use mir.Facts.{toZ-ofZ}
 use lib.ListN.{length}
 use Rattle.pyramid.specs.Slices.{sampleOf}
-use Rattle.viewer.proofs.Filling.{place-inside, stored}
+use Rattle.windows.proofs.Filling.{place-inside, stored}
 use borrow.Author.Needs.{needs}
-use Rattle.viewer.proofs.store_cell.Statement.{statement}
-use Rattle.viewer.proofs.store_cell.Tie as tie
+use Rattle.windows.proofs.store_cell.Statement.{statement}
+use Rattle.windows.proofs.store_cell.Tie as tie
 
 -- the place is inside the slice
 inside : (s : tie.Start) → let a = s .args in (a .x - a .v .left) * a .v .tall + (a .y - a .v .top) < length (a .samples .now)

@@ -1,16 +1,15 @@
--- `viewer::window_all` meets its contract. Assumes nothing.
+-- `windows::fill_window` meets its contract. Assumes nothing.
 use mathlib.Core.Path.{_≡_, refl, _∙_}
 use Prim.Native.Nat.{ℕ, _+_, _-_, _/_, _<_, _≤_}
 use native.Mathlib.Omega.{arith}
 use Rattle.pyramid.specs.Plane.{halved}
 use Rattle.pyramid.proofs.Ranges.{halved-le}
 use Rattle.blockwise.proofs.Cells.{across, cell-below, block-mono}
-use Rattle.viewer.specs.Shown.{sampleAt, Shown, Kept}
-use Rattle.viewer.proofs.Filling.{kept-refl, kept-trans}
-use Rattle.viewer.proofs.Windows.{window-is}
+use Rattle.windows.specs.Shown.{sampleAt, Shown, Kept}
+use Rattle.windows.proofs.Filling.{kept-refl, kept-trans}
 use borrow.Author.Count.{below-more}
-use Rattle.viewer.proofs.window_all.Statement.{statement}
-use Rattle.viewer.proofs.window_all.Tie as tie
+use Rattle.windows.proofs.fill_window.Statement.{statement}
+use Rattle.windows.proofs.fill_window.Tie as tie
 
 abbrev Inv-loop : tie.InvT-loop
 Inv-loop height width levels plane coverings v samples₀ cells unit last j₀ samples j =
@@ -93,11 +92,10 @@ returns c =
     let s = start l in
     let a = s .args in
     let d = a .levels - 1 in
-    window-is (s .args .v) (a .levels) (a .height) (a .width) (a .coverings .now) (a .plane .now) (l .loop .samples) (s .pre .1 .0) (l .loop .inv .0 .long ∙ s .pre .1 .1)
-    (λ y x f g b r. l .loop .inv .1 (halved d (x / 4)) (omega (arith, c .loop-test .left, l .before .before .block-of .ensures, block-mono d x (a .v .left + a .v .wide - 1) (omega arith))) (block-mono d (a .v .left) x b) y x refl f g b r)
+    (l .loop .inv .0 .long ∙ s .pre .1 .1, λ y x f g b r. l .loop .inv .1 (halved d (x / 4)) (omega (arith, c .loop-test .left, l .before .before .block-of .ensures, block-mono d x (a .v .left + a .v .wide - 1) (omega arith))) (block-mono d (a .v .left) x b) y x refl f g b r)
 
-pub window-all-spec : {M : Type 1} → statement M
-window-all-spec =
+pub fill-window-spec : {M : Type 1} → statement M
+fill-window-spec =
     tie.close
     (tie.spec
     Inv-loop

@@ -1,4 +1,4 @@
--- `viewer::store_four` meets its contract. Assumes nothing.
+-- `windows::store_four` meets its contract. Assumes nothing.
 use mathlib.Core.Path.{_≡_, refl, ap, _∙_, subst}
 use mathlib.Core.List.{List}
 use Prim.Native.Nat.{ℕ, _+_, _*_, _-_, _/_, _%_, _<_, _≤_}
@@ -10,12 +10,12 @@ use Rattle.pyramid.specs.Plane.{Image}
 use Rattle.pyramid.specs.Slices.{sampleOf}
 use Rattle.pyramid.specs.Behind.{blockList}
 use Rattle.blockwise.proofs.Cells.{cell-at}
-use Rattle.viewer.specs.Shown.{rounded, Shown, Kept}
-use Rattle.viewer.proofs.Filling.{kept-refl, kept-trans}
+use Rattle.windows.specs.Shown.{rounded, Shown, Kept}
+use Rattle.windows.proofs.Filling.{kept-refl, kept-trans}
 use borrow.Author.Count.{below-more}
 use borrow.Author.Needs.{needs}
-use Rattle.viewer.proofs.store_four.Statement.{statement}
-use Rattle.viewer.proofs.store_four.Tie as tie
+use Rattle.windows.proofs.store_four.Statement.{statement}
+use Rattle.windows.proofs.store_four.Tie as tie
 
 -- the first r rows are stored
 abbrev Inv-loop : tie.InvT-loop

@@ -1,16 +1,16 @@
--- `viewer::store_part` meets its contract. Assumes nothing.
+-- `windows::store_part` meets its contract. Assumes nothing.
 use mathlib.Core.Path.{_≡_, refl, ap, _∙_}
 use Prim.Native.Nat.{ℕ, _*_, _-_, _/_, _<_, _≤_}
 use native.Mathlib.Omega.{arith}
 use lib.ListN.{length}
 use Rattle.pyramid.specs.Plane.{Image}
 use Rattle.pyramid.specs.Behind.{blockList}
-use Rattle.viewer.specs.Shown.{rounded, Shown, Kept}
-use Rattle.viewer.proofs.Filling.{kept-refl, kept-trans}
+use Rattle.windows.specs.Shown.{rounded, Shown, Kept}
+use Rattle.windows.proofs.Filling.{kept-refl, kept-trans}
 use borrow.Author.Count.{below-more}
 use borrow.Author.Needs.{needs}
-use Rattle.viewer.proofs.store_part.Statement.{statement}
-use Rattle.viewer.proofs.store_part.Tie as tie
+use Rattle.windows.proofs.store_part.Statement.{statement}
+use Rattle.windows.proofs.store_part.Tie as tie
 
 abbrev Inv-loop : tie.InvT-loop
 Inv-loop values v i j levels unit samples₀ end x₀ samples x =

@@ -1,4 +1,4 @@
--- `viewer::fill_column` meets its contract. Assumes nothing.
+-- `windows::fill_column` meets its contract. Assumes nothing.
 use mathlib.Core.Path.{refl, _∙_}
 use Prim.Native.Nat.{ℕ, _+_, _*_, _-_, _/_, _<_, _≤_}
 use native.Mathlib.Omega.{arith}
@@ -9,12 +9,11 @@ use Rattle.blockwise.specs.Node.{blockAt}
 use Rattle.blockwise.specs.Cells.{AllIn}
 use Rattle.blockwise.proofs.Cells.{down, cell-below, block-mono}
 use Rattle.blockwise.proofs.Ends.{asked, values-last}
-use Rattle.viewer.specs.Shown.{sampleAt, Shown, Kept}
-use Rattle.viewer.proofs.Filling.{kept-refl, kept-trans, told}
-use Rattle.viewer.proofs.Windows.{inside-most}
+use Rattle.windows.specs.Shown.{sampleAt, Shown, Kept}
+use Rattle.windows.proofs.Filling.{inside-most, kept-refl, kept-trans, told}
 use borrow.Author.Count.{below-more}
-use Rattle.viewer.proofs.fill_column.Statement.{statement}
-use Rattle.viewer.proofs.fill_column.Tie as tie
+use Rattle.windows.proofs.fill_column.Statement.{statement}
+use Rattle.windows.proofs.fill_column.Tie as tie
 
 abbrev Inv-loop : tie.InvT-loop
 Inv-loop cells height width levels plane coverings v j unit samples₀ last i₀ samples i =
