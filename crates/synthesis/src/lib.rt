@@ -13,6 +13,7 @@ ghost use Rattle.grid.specs.Grid.{bandPlace};
 ghost use Rattle.synthesis.specs.Synthesis.{counted, weighted, mergedBlock, putBlock, putColumn, putColumns, Level, Restorable};
 
 // A low-pass result once, a tetrolet coefficient `weight` times.
+// Two wrong answers that the contract rules out: a low-pass result `weight` times; and each once.
 pub fn count(k: usize, z: i64, weight: u64) -> i64
     requires { ⌜ (weight ≤ 2 ^ 20) × (natAbs (counted weight k z) ≤ 2 ^ 40) ⌝ }
     ensures { λ r. ⌜ r ≡ counted weight k z ⌝ }
@@ -227,7 +228,7 @@ fn synthesise(
     slices::clear(scratch);
 }
 
-// 4 to the power `levels`.
+// 4 to the power `levels`. Two wrong answers that the contract rules out: 2 to that power; and 4 to one power less.
 pub fn power(levels: usize) -> u64
     requires { ⌜ levels ≤ 8 ⌝ }
     ensures { λ r. ⌜ r ≡ 4 ^ levels ⌝ }

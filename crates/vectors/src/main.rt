@@ -9,7 +9,7 @@ mod joins;
 mod marks;
 mod pictures;
 mod planes;
-mod windows;
+mod views;
 
 use cases::tally::tell;
 
@@ -27,8 +27,8 @@ fn tell_all(words: &[u8]) {
     tell(b"test image", generated::group());
     tell(b"join", joins::group());
     tell(b"join flaws", joins::flawed_group());
-    tell(b"window", windows::group(words));
-    tell(b"window flaws", windows::flawed_group(words));
+    tell(b"window", views::group(words));
+    tell(b"window flaws", views::flawed_group(words));
 }
 
 fn main() {

@@ -1,8 +1,8 @@
--- `vectors::windows::group` is safe and ends. Assumes nothing.
+-- `vectors::views::group` is safe and ends. Assumes nothing.
 use Prim.Native.Nat.{_-_, _≤_}
 use borrow.Author.Needs.{needs}
-use Rattle.vectors.proofs.windows.group.Statement.{statement}
-use Rattle.vectors.proofs.windows.group.Tie as tie
+use Rattle.vectors.proofs.views.group.Statement.{statement}
+use Rattle.vectors.proofs.views.group.Tie as tie
 
 abbrev Inv-loop : tie.InvT-loop
 Inv-loop words t₀ c₀ t c = c ≤ 75264

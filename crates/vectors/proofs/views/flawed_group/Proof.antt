@@ -1,8 +1,8 @@
--- `vectors::windows::flawed_group` is safe and ends. Assumes nothing.
+-- `vectors::views::flawed_group` is safe and ends. Assumes nothing.
 use Prim.Native.Nat.{_-_, _≤_}
 use borrow.Author.Needs.{needs}
-use Rattle.vectors.proofs.windows.flawed_group.Statement.{statement}
-use Rattle.vectors.proofs.windows.flawed_group.Tie as tie
+use Rattle.vectors.proofs.views.flawed_group.Statement.{statement}
+use Rattle.vectors.proofs.views.flawed_group.Tie as tie
 
 abbrev Inv-loop : tie.InvT-loop
 Inv-loop words t₀ c₀ t c = c ≤ 27744

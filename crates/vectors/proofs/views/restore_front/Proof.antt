@@ -1,10 +1,10 @@
--- `vectors::windows::restore_front` is safe and ends. Assumes nothing.
+-- `vectors::views::restore_front` is safe and ends. Assumes nothing.
 use mathlib.Core.Path.{sym}
 use native.Mathlib.Omega.{arith}
 use lib.Seq.{length-take-le}
 use borrow.Author.Needs.{needs}
-use Rattle.vectors.proofs.windows.restore_front.Statement.{statement}
-use Rattle.vectors.proofs.windows.restore_front.Tie as tie
+use Rattle.vectors.proofs.views.restore_front.Statement.{statement}
+use Rattle.vectors.proofs.views.restore_front.Tie as tie
 
 returns : tie.Need-returns
 returns c = search needs
