@@ -2,7 +2,7 @@
 use mathlib.Core.Path.{_≡_, refl, sym, ap, _∙_, subst, subst⁻¹, fun-ext}
 use mathlib.Core.Bool.{false}
 use Prim.Native.Nat.{ℕ, zero, suc, _+_, _*_, _-_, _/_, _%_, _^_, _<_, _≤_}
-use native.Mathlib.Nat.{pow-succ', pow-le-pow-right, div-div-eq-div-mul, div-one, mul-le-mul, le-refl}
+use native.Mathlib.Nat.{zero-add, pow-succ', pow-le-pow-right, div-div-eq-div-mul, div-one, mul-le-mul, le-refl}
 use native.Mathlib.Omega.{arith}
 use lib.IntN.{ℤ, pos, natAbs, _*ℤ_}
 use lib.ListN.{getD}
@@ -60,10 +60,7 @@ places-behind Q (suc d) t (suc R) e D h w p q a = places-behind Q d t R (suc e) 
 
 -- ---- what they give back: all levels, none, and one level more
 pub values-all : (R h w : ℕ) (cs : ℕ → ℕ) (P : Image) → valuesBehind 0 R h w cs P ≡ numerators R h w cs P
-values-all R h w cs P = ap (λ (c : ℕ → ℕ). numerators R h w c P) (fun-ext (λ k. ap cs (none-before k)))
-  where
-    none-before : (k : ℕ) → 0 + k ≡ k
-    none-before k = omega arith
+values-all R h w cs P = ap (λ (c : ℕ → ℕ). numerators R h w c P) (fun-ext (λ k. ap cs (zero-add k)))
 
 pub values-none : (d h w : ℕ) (cs : ℕ → ℕ) (P : Image) → valuesBehind d 0 h w cs P ≡ P
 unfolding numerators

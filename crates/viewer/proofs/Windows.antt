@@ -1,13 +1,13 @@
 -- Windows: a slice that shows each cell of a window is the window of the samples; the entries of a window. Assumes nothing.
 use mathlib.Core.Path.{_≡_, sym, ap, _∙_}
 use mathlib.Core.List.{List}
-use Prim.Native.Nat.{ℕ, zero, suc, _+_, _*_, _-_, _/_, _%_, _<_}
-use native.Mathlib.Nat.{mod-lt, div-lt-iff-lt-mul, div-add-mod'}
+use Prim.Native.Nat.{ℕ, _+_, _*_, _-_, _/_, _%_, _<_}
+use native.Mathlib.Nat.{zero-add, div-add-mod'}
 use native.Mathlib.Omega.{arith}
 use lib.IntN.{ℤ, pos}
 use lib.ListN.{length, getD}
 use lib.Seq.{ext-getD}
-use Rattle.integers.proofs.Index.{index-bound, column-row, column-col}
+use Rattle.integers.proofs.Index.{index-bound, index-place, column-row, column-col}
 use Rattle.integers.proofs.Tabulate.{length-tabulate, getD-tabulate}
 use Rattle.pyramid.specs.Plane.{Image, listed, numerators}
 use Rattle.pyramid.specs.Slices.{imageOf, sliceOf, sampleOf, samplesOf}
@@ -25,10 +25,6 @@ sample-in R h w cs plane y x k l =
     Y : Image
     Y = numerators R h w (listed cs) (imageOf h plane)
 
-some : (n m k : ℕ) → k < n * m → 0 < m
-some n zero k l = absurd (omega arith)
-some n (suc m) k l = omega arith
-
 -- ---- the entries of a window
 pub long : (h : ℕ) (v : View) (s : List ℕ) → length (windowOf h v s) ≡ v .wide * v .tall
 unfolding windowOf
@@ -42,7 +38,7 @@ at h v s y x k l = getD-tabulate (v .wide * v .tall) _ 0 (x * v .tall + y) (inde
 from-cells : (h : ℕ) (v : View) (s r : List ℕ) → length r ≡ v .wide * v .tall → ((y x : ℕ) → y < v .tall → x < v .wide → getD r (x * v .tall + y) 0 ≡ getD s ((v .left + x) * h + (v .top + y)) 0)
     → r ≡ windowOf h v s
 from-cells h v s r n f =
-    ext-getD 0 r (windowOf h v s) (n ∙ sym (long h v s)) (λ k l. let m : k < v .wide * v .tall = omega arith in one k (mod-lt k (some (v .wide) (v .tall) k m)) (div-lt-iff-lt-mul (some (v .wide) (v .tall) k m) .1 m))
+    ext-getD 0 r (windowOf h v s) (n ∙ sym (long h v s)) (λ k l. let z = index-place (v .tall) (v .wide) k (omega arith) in one k (z .0) (z .1))
   where
     one : (k : ℕ) → k % v .tall < v .tall → k / v .tall < v .wide → getD r k 0 ≡ getD (windowOf h v s) k 0
     one k y x =
@@ -65,7 +61,4 @@ window-is v R h w cs plane s i n all = from-cells h v (samplesOf R h w cs plane)
         ∙ sym (sample-in R h w cs plane (v .top + y) (v .left + x) (omega (arith, i .down)) (omega (arith, i .across)))
 
 pub whole : (h w : ℕ) (s : List ℕ) → length s ≡ w * h → windowOf h (viewOf 0 0 h w) s ≡ s
-whole h w s n = sym (from-cells h (viewOf 0 0 h w) s s n (λ y x k l. sym (λ t. getD s (none x t * h + none y t) 0)))
-  where
-    none : (n : ℕ) → 0 + n ≡ n
-    none n = omega arith
+whole h w s n = sym (from-cells h (viewOf 0 0 h w) s s n (λ y x k l. sym (λ t. getD s (zero-add x t * h + zero-add y t) 0)))
