@@ -1,27 +1,34 @@
 -- The laws of the entries with a list together. Assumes nothing.
-use mathlib.Core.Path.{_≡_, refl, sym, ap, _∙_, subst, subst⁻¹}
+use mathlib.Core.Path.{_≡_, refl, sym, ap, _∙_, subst⁻¹}
 use mathlib.Core.Bool.{Bool, true, false, not, _&&_}
 use mathlib.Core.List.{List}
-use Prim.Native.Nat.{ℕ, suc, _*_, _≤_}
+use Prim.Native.Nat.{ℕ, zero, suc, _*_, _≤_, _<_}
 use native.Mathlib.Omega.{arith}
 use lib.Dec.{T, ltb}
 use lib.IntN.{ℤ}
-use lib.ListN.{length}
+use lib.ListN.{length, getD}
 use Rattle.refusals.specs.Refusal.{numberOf, refuseIf, afterCall}
 use Rattle.refusals.specs.declared.Refusal.{Refusal}
 use Rattle.refusals.proofs.After.{unchanged, past}
-use Rattle.integers.specs.Lists.{every}
-use Rattle.integers.proofs.Tests.{is-true, is-false}
-use Rattle.terms.specs.Terms.{among, isList}
+use Rattle.integers.specs.Lists.{every, oneOf}
+use Rattle.integers.proofs.Tests.{is-true, is-false, every-at, every-of, every-through, oneOf-at, at-oneOf}
+use Rattle.coverings.specs.Entry.{isNumber}
+use Rattle.coverings.specs.Rule.{Number}
+use Rattle.coverings.proofs.Checks.{number-yes, is-number, number-at, every-number}
+use Rattle.terms.specs.Terms.{among, allNumbers, isList}
 use Rattle.terms.proofs.Good as lists
+use Rattle.pyramid.specs.Ranges.{inRange}
 use Rattle.pyramid.specs.Sides.{isSides, isDepth, isPlane, isCoverings}
-use Rattle.pyramid.specs.Slices.{coversBy, planeBy, samplesOf}
-use Rattle.coder.specs.Entries.{isSample, DecomposedWithin, withinRefusal, restoreRefusal, Restored}
+use Rattle.pyramid.specs.Slices.{imageOf, sliceOf, coversBy, planeBy, samplesOf}
+use Rattle.pyramid.proofs.Slices.{slice-length}
+use Rattle.coder.specs.Entries.{isSample, DecomposedWithin, withinRefusal, frameRefusal, restoreRefusal, Restored}
 use Rattle.coder.specs.Claims.{Left}
-use Rattle.coder.proofs.Gates.{truth, Decomposable, tolerance-past, tolerance-passes}
+use Rattle.coder.proofs.Gates.{truth, Decomposable, tolerance-past, tolerance-passes, restore-past, restores}
 use Rattle.coder.proofs.Together.{found, left-by, picture-of}
-use Rattle.listing.specs.Entries.{listedRefusal, DecomposedListed, restoreListedRefusal, RestoredListed}
-use Rattle.listing.specs.Claims.{ListingLaws}
+use Rattle.quota.specs.Quota.{select}
+use Rattle.quota.proofs.Accepted.{selected-accepted}
+use Rattle.listing.specs.Entries.{listedRefusal, DecomposedListed, standRefusal, restoreListedRefusal, RestoredListed}
+use Rattle.listing.specs.Claims.{Stand, Cuts, uncut, keep, threshold, ListingLaws}
 
 -- ---- decomposing
 
@@ -82,32 +89,98 @@ full height width levels tolerance samples list plane plane′ coverings coverin
 
 -- ---- restoring
 
+-- each covering is one of the list, by places
+stands : (list coverings : List ℕ) → Stand list coverings → every (oneOf list) coverings ≡ true
+stands list coverings s = is-true (every (oneOf list) coverings) (every-of (oneOf list) coverings 0 (λ k h. let p = s k h in subst⁻¹ (λ (n : ℕ). T (oneOf list n)) (p .2) (at-oneOf list (p .0) (p .1))))
+
+stand : (list coverings : List ℕ) → T (every (oneOf list) coverings) → Stand list coverings
+stand list coverings t k h = oneOf-at list (getD coverings k 0) (every-at (oneOf list) coverings 0 t k h)
+
+-- what stands in a list is a number
+pub stand-numbers : (list coverings : List ℕ) → isList list ≡ true → every (oneOf list) coverings ≡ true → every isNumber coverings ≡ true
+stand-numbers list coverings g = every-through (oneOf list) isNumber coverings (λ n e. number-yes n (lists.member list (truth g) n (truth e)))
+
 module _ (height width levels : ℕ) (plane : List ℤ) (coverings list : List ℕ) (numerators : List ℤ) (samples : List ℕ) (scratch : List ℤ) where
   pub rejects-listed : (r : Refusal) → numberOf r ≡ restoreListedRefusal height width levels plane coverings list numerators samples scratch → RestoredListed height width levels plane coverings list numerators numerators samples samples scratch scratch (numberOf r)
   rejects-listed r e = record { number = e; values = unchanged r _ numerators; image = unchanged r _ samples; zeros = unchanged r _ scratch }
 
-  same-number : isList list ≡ true → restoreListedRefusal height width levels plane coverings list numerators samples scratch ≡ restoreRefusal height width levels plane coverings numerators samples scratch
-  same-number g = rw g refl
+  same-number : isList list ≡ true → every (oneOf list) coverings ≡ true → restoreListedRefusal height width levels plane coverings list numerators samples scratch ≡ restoreRefusal height width levels plane coverings numerators samples scratch
+  same-number g s = rw (g, s) refl
 
-module _ (height width levels : ℕ) (plane : List ℤ) (coverings list : List ℕ) (numerators numerators′ : List ℤ) (samples samples′ : List ℕ) (scratch scratch′ : List ℤ) (n : ℕ) (g : isList list ≡ true) where
-  number : restoreListedRefusal height width levels plane coverings list numerators samples scratch ≡ restoreRefusal height width levels plane coverings numerators samples scratch
-  number = same-number height width levels plane coverings list numerators samples scratch g
+  unnumbered : T (isList list) → (k : ℕ) → k < length coverings → (Number (getD coverings k 0) → ⊥)
+      → restoreListedRefusal height width levels plane coverings list numerators samples scratch ≡ frameRefusal height width levels plane coverings numerators samples scratch 5
+  unnumbered g k h f = rw (is-true (isList list) g, is-false (every isNumber coverings) (λ t. f (number-at coverings k (is-true (every isNumber coverings) t) h))) refl
 
-  pub with-list : Restored height width levels plane coverings numerators numerators′ samples samples′ scratch scratch′ n → RestoredListed height width levels plane coverings list numerators numerators′ samples samples′ scratch scratch′ n
+  missing : T (isList list) → ((k : ℕ) → k < length coverings → Number (getD coverings k 0)) → (k : ℕ) → k < length coverings → ((i : ℕ) → i < length list → getD coverings k 0 ≡ getD list i 0 → ⊥)
+      → restoreListedRefusal height width levels plane coverings list numerators samples scratch ≡ frameRefusal height width levels plane coverings numerators samples scratch 18
+  missing g ns k h f = rw (is-true (isList list) g, is-true (every isNumber coverings) (every-number coverings ns), is-false (every (oneOf list) coverings) (λ t. let p = stand list coverings t k h in f (p .0) (p .1) (p .2))) refl
+
+  -- with all 117 listed, 5 stands in front of 18
+  full-number : isList list ≡ true → list ≡ allNumbers → restoreListedRefusal height width levels plane coverings list numerators samples scratch ≡ restoreRefusal height width levels plane coverings numerators samples scratch
+  full-number g e = ap (frameRefusal height width levels plane coverings numerators samples scratch) (rw g (go (every isNumber coverings) refl))
+    where
+      rest : ℕ
+      rest = refuseIf (not (inRange levels height width (imageOf height plane))) 6 0
+
+      go : (b : Bool) → every isNumber coverings ≡ b → refuseIf (not b) 5 (refuseIf (not (every (oneOf list) coverings)) 18 rest) ≡ refuseIf (not b) 5 rest
+      go false c = refl
+      go true c = rw (every-through isNumber (oneOf list) coverings (λ n t. is-true (oneOf list n) (subst⁻¹ (λ (l : List ℕ). T (oneOf l n)) e (lists.all-listed n .1 (is-number n t)))) c) refl
+
+-- where the numbers are the same
+module _ (height width levels : ℕ) (plane : List ℤ) (coverings list : List ℕ) (numerators numerators′ : List ℤ) (samples samples′ : List ℕ) (scratch scratch′ : List ℤ) (n : ℕ) (number : restoreListedRefusal height width levels plane coverings list numerators samples scratch ≡ restoreRefusal height width levels plane coverings numerators samples scratch) where
+  with-list : Restored height width levels plane coverings numerators numerators′ samples samples′ scratch scratch′ n → RestoredListed height width levels plane coverings list numerators numerators′ samples samples′ scratch scratch′ n
   with-list d = record { number = d .number ∙ sym number; values = d .values; image = d .image; zeros = d .zeros }
 
   without-list : RestoredListed height width levels plane coverings list numerators numerators′ samples samples′ scratch scratch′ n → Restored height width levels plane coverings numerators numerators′ samples samples′ scratch scratch′ n
   without-list d = record { number = d .number ∙ number; values = d .values; image = d .image; zeros = d .zeros }
 
-back : (height width levels tolerance : ℕ) (samples list : List ℕ) (plane plane′ : List ℤ) (coverings coverings′ : List ℕ) (scratch scratch′ : List ℤ)
-    → DecomposedListed height width levels tolerance samples list plane plane′ coverings coverings′ scratch scratch′ 0
-    → (numerators numerators′ : List ℤ) (restored restored′ : List ℕ) (work work′ : List ℤ) (n : ℕ) → length numerators ≡ width * height → length restored ≡ width * height → length work ≡ width * height
-    → RestoredListed height width levels plane′ coverings′ list numerators numerators′ restored restored′ work work′ n → (n ≡ 0) × (restored′ ≡ samples)
-back height width levels tolerance samples list plane plane′ coverings coverings′ scratch scratch′ d numerators numerators′ restored restored′ work work′ n a b c r =
-    let l = left-of height width levels tolerance samples list plane plane′ coverings coverings′ scratch scratch′ d in
-    let good = is-true (isList list) (listed-past height width levels tolerance samples list plane coverings scratch (d .number) .2) in
-    let zero : n ≡ 0 = r .number ∙ same-number height width levels plane′ coverings′ list numerators restored work good ∙ l .restores numerators work restored a c b in
-    (zero, r .image ∙ ap (λ (k : ℕ). afterCall k (samplesOf levels height width coverings′ plane′) restored) zero ∙ l .exact)
+-- what the checks of the list let through
+pub stood : (height width levels : ℕ) (plane : List ℤ) (coverings list : List ℕ) (numerators numerators′ : List ℤ) (samples samples′ : List ℕ) (scratch scratch′ : List ℤ) (n : ℕ)
+    → 0 ≡ standRefusal coverings list 0 → Restored height width levels plane coverings numerators numerators′ samples samples′ scratch scratch′ n → RestoredListed height width levels plane coverings list numerators numerators′ samples samples′ scratch scratch′ n
+stood height width levels plane coverings list numerators numerators′ samples samples′ scratch scratch′ n e =
+    let g = past (isList list) 13 e in
+    let s = past (every (oneOf list) coverings) 17 (past (every isNumber coverings) 4 (g .1) .1) in
+    with-list height width levels plane coverings list numerators numerators′ samples samples′ scratch scratch′ n (same-number height width levels plane coverings list numerators samples scratch (g .0) (s .0))
+
+-- ---- restoring what decomposing left
+
+-- a plane that restoring accepts, cut or not, is accepted
+module _ (height width levels : ℕ) (coverings : List ℕ) (numerators : List ℤ) (samples : List ℕ) (scratch : List ℤ) where
+  abbrev Accepted : List ℤ → Type 0
+  Accepted plane = 0 ≡ restoreRefusal height width levels plane coverings numerators samples scratch
+
+  selected : (plane : List ℤ) → Accepted plane → (stay : ℕ → Bool) (n : ℕ) → Accepted (afterCall n (sliceOf height width (select levels height width stay (imageOf height plane))) plane)
+  selected plane e stay zero =
+      let p = restore-past height width levels plane coverings numerators samples scratch e in
+      let f = p .0 in
+      let new = select levels height width stay (imageOf height plane) in
+      let ranged = selected-accepted levels height width (f .sizes .some-level) (f .sizes .fits) stay plane (p .1 .ranges) in
+      sym
+      (restores height width levels (sliceOf height width new) coverings numerators samples scratch (f .sizes .sided) (f .sizes .deep) (slice-length height width new) (f .covered) (f .numerators-long) (f .samples-long) (f .scratch-long)
+      (is-true _ (p .1 .numbers)) (is-true _ ranged))
+  selected plane e stay (suc n) = e
+
+  after-cuts : {plane cut : List ℤ} → Cuts height width levels plane cut → Accepted plane → Accepted cut
+  after-cuts uncut e = e
+  after-cuts (keep {before} {after} {quota} {n} c k) e = subst⁻¹ Accepted (k .planes) (selected before (after-cuts c e) _ n)
+  after-cuts (threshold {before} {after} {limit} {n} c k) e = subst⁻¹ Accepted (k .planes) (selected before (after-cuts c e) _ n)
+
+module _ (height width levels tolerance : ℕ) (samples list : List ℕ) (plane plane′ : List ℤ) (coverings coverings′ : List ℕ) (scratch scratch′ : List ℤ) (d : DecomposedListed height width levels tolerance samples list plane plane′ coverings coverings′ scratch scratch′ 0) where
+  l : Left (among tolerance list) height width levels samples plane′ coverings′
+  l = left-of height width levels tolerance samples list plane plane′ coverings coverings′ scratch scratch′ d
+
+  own : (cut : List ℤ) → Cuts height width levels plane′ cut → (numerators numerators′ : List ℤ) (restored restored′ : List ℕ) (work work′ : List ℤ) (n : ℕ) → length numerators ≡ width * height → length restored ≡ width * height → length work ≡ width * height
+      → RestoredListed height width levels cut coverings′ list numerators numerators′ restored restored′ work work′ n → n ≡ 0
+  own cut cs numerators numerators′ restored restored′ work work′ n a b c r =
+      let good = is-true (isList list) (listed-past height width levels tolerance samples list plane coverings scratch (d .number) .2) in
+      r .number ∙ same-number height width levels cut coverings′ list numerators restored work good (is-true (every (oneOf list) coverings′) (l .stand))
+      ∙ sym (after-cuts height width levels coverings′ numerators restored work cs (sym (l .restores numerators work restored a c b)))
+
+  back : (numerators numerators′ : List ℤ) (restored restored′ : List ℕ) (work work′ : List ℤ) (n : ℕ) → length numerators ≡ width * height → length restored ≡ width * height → length work ≡ width * height
+      → RestoredListed height width levels plane′ coverings′ list numerators numerators′ restored restored′ work work′ n → (n ≡ 0) × (restored′ ≡ samples)
+  back numerators numerators′ restored restored′ work work′ n a b c r =
+      let zero = own plane′ uncut numerators numerators′ restored restored′ work work′ n a b c r in
+      (zero, r .image ∙ ap (λ (k : ℕ). afterCall k (samplesOf levels height width coverings′ plane′) restored) zero ∙ l .exact)
 
 pub laws : ListingLaws
 laws = record {
@@ -119,8 +192,15 @@ laws = record {
       ∙ ap (λ (o : Bool). refuseIf (not o) 14 0) (is-true (isList list) good);
   left = left-of;
   back = back;
-  same = λ height width levels plane coverings list numerators numerators′ samples samples′ scratch scratch′ n g.
-      let e = is-true (isList list) g in
-      (without-list height width levels plane coverings list numerators numerators′ samples samples′ scratch scratch′ n e, with-list height width levels plane coverings list numerators numerators′ samples samples′ scratch scratch′ n e);
   full = full;
+  unnumbered = unnumbered;
+  missing = missing;
+  same = λ height width levels plane coverings list numerators numerators′ samples samples′ scratch scratch′ n g s.
+      let e = same-number height width levels plane coverings list numerators samples scratch (is-true (isList list) g) (stands list coverings s) in
+      (without-list height width levels plane coverings list numerators numerators′ samples samples′ scratch scratch′ n e, with-list height width levels plane coverings list numerators numerators′ samples samples′ scratch scratch′ n e);
+  fullRestored = λ height width levels plane coverings list numerators numerators′ samples samples′ scratch scratch′ n g k.
+      let e = full-number height width levels plane coverings list numerators samples scratch (is-true (isList list) g) (lists.full list g .0 k) in
+      (without-list height width levels plane coverings list numerators numerators′ samples samples′ scratch scratch′ n e, with-list height width levels plane coverings list numerators numerators′ samples samples′ scratch scratch′ n e);
+  used = λ height width levels tolerance samples list plane plane′ coverings coverings′ scratch scratch′ d. stand list coverings′ (left-of height width levels tolerance samples list plane plane′ coverings coverings′ scratch scratch′ d .stand);
+  own = λ height width levels tolerance samples list plane plane′ cut coverings coverings′ scratch scratch′ d. own height width levels tolerance samples list plane plane′ coverings coverings′ scratch scratch′ d cut;
 }

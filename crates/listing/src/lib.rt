@@ -1,11 +1,14 @@
-// Listing: the entries decompose with a list of coverings, out of which each block's is chosen, and restore with a list. They ask the checks of the crate
-// `coder` and that of the list, and where none refuses do the work of `analysis` and of `coder::restore`. What they answer and leave is in
-// specs/Entries.antt; what is proved of them together, `ListingLaws` of specs/Claims.antt, is in proofs/Together.antt.
+// Listing: the entries decompose with a list of coverings, out of which each block's is chosen, and restore with a list, in which each block's must stand.
+// They ask the checks of the crate `coder` and those of the list, and where none refuses do the work of `analysis` and of `coder::restore`. What they answer
+// and leave is in specs/Entries.antt; what is proved of them together, `ListingLaws` of specs/Claims.antt, is in proofs/Together.antt.
 ghost use mathlib.Core.Path.{_≡_};
-ghost use Rattle.refusals.specs.Refusal.{answerOf};
+ghost use Prim.Native.Nat.{ℕ};
+ghost use Rattle.refusals.specs.Refusal.{answerOf, afterCall};
+ghost use Rattle.integers.specs.Lists.{every, oneOf};
 ghost use Rattle.terms.specs.Terms.{isList};
 ghost use Rattle.listing.specs.Claims.{ListingLaws};
-ghost use Rattle.listing.specs.Entries.{listedRefusal, DecomposedListed, RestoredListed};
+ghost use Rattle.listing.specs.Entries.{listedRefusal, DecomposedListed, standRefusal, RestoredListed};
+ghost use Rattle.listing.specs.Marks.{Marked};
 use refusals::Answer;
 use refusals::Refusal;
 
@@ -118,9 +121,58 @@ pub fn decompose_listed(
     Answer::Done
 }
 
-// Restores a plane by its coverings: numerators, samples, and zeros in the scratch slice, as coder::restore does. Of the list only that it is one is looked
-// at: that it is the one which was used is the caller's word.
-// Two wrong answers that the contract rules out: 5 for a bad list and a covering 0; and 0 for an empty list.
+// Marks each number of a list. A mark stands for each byte there is, so that no list and no covering reaches past the marks.
+fn marks_of(list: &[u8]) -> [bool; 256]
+    ensures { λ r. ⌜ Marked (now (list .entry)) r ⌝ }
+{
+    let mut marks = [false; 256];
+    let mut i: usize = 0;
+    while i < list.len() {
+        let n = list[i];
+        marks[n as usize] = true;
+        i += 1;
+    }
+    marks
+}
+
+// Whether each covering stands in the list.
+// Two wrong answers that the contract rules out: true where the last block's is missing; and false for a list that holds one more than is used.
+fn all_listed(coverings: &[u8], list: &[u8]) -> bool
+    ensures { λ r. ⌜ r ≡ every (oneOf (now (list .entry))) (now (coverings .entry)) ⌝ }
+{
+    let marks = marks_of(list);
+    let mut i: usize = 0;
+    while i < coverings.len() {
+        let n = coverings[i];
+        if !marks[n as usize] {
+            return false;
+        }
+        i += 1;
+    }
+    true
+}
+
+// The checks of restore_listed between 3 and 6: the list, the coverings, and that they stand in it; `rest` is what those behind them give. A covering that is no
+// number, which is 5, stands in no good list, so it is looked for only where one is missing.
+fn stand_checks(coverings: &[u8], list: &[u8]) -> Answer
+    ensures { λ r. ⌜ ((rest : ℕ) → standRefusal (now (coverings .entry)) (now (list .entry)) rest ≡ afterCall (answerOf r) rest (answerOf r)) ⌝ }
+{
+    if !is_list(list) {
+        return Answer::Refused(Refusal::Listing);
+    }
+    if all_listed(coverings, list) {
+        return Answer::Done;
+    }
+    if !places::checks::all_numbers(coverings) {
+        return Answer::Refused(Refusal::Covering);
+    }
+    Answer::Refused(Refusal::Unlisted)
+}
+
+// Restores a plane by its coverings: numerators, samples, and zeros in the scratch slice, as coder::restore does, where each covering stands in the list. The
+// list may hold others too.
+// Three wrong answers that the contract rules out: 18 for a bad list or a covering 0; 6 for a covering that is missing and a coefficient out of range; and 0
+// for a covering that is missing at a block whose coefficients are all 0.
 pub fn restore_listed(
     height: usize,
     width: usize,
@@ -147,8 +199,9 @@ pub fn restore_listed(
     if let Answer::Refused(r) = framed {
         return Answer::Refused(r);
     }
-    if !is_list(list) {
-        return Answer::Refused(Refusal::Listing);
+    let found = stand_checks(coverings, list);
+    if let Answer::Refused(r) = found {
+        return Answer::Refused(r);
     }
     coder::restore(
         height,

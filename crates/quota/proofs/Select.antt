@@ -8,7 +8,7 @@ use lib.ListN.{getD}
 use native.Mathlib.Decide.{decLt}
 use Rattle.pyramid.specs.Plane.{Image, Fits, band, layout, withLow, halved}
 use Rattle.pyramid.specs.Places.{placesFrom, at, tetroletPlaces}
-use Rattle.quota.specs.Quota.{select, ranks, stays, kept}
+use Rattle.quota.specs.Quota.{select}
 use Rattle.pyramid.proofs.Levels.{layout-low, layout-band}
 use Rattle.integers.proofs.Tests.{true-at, false-at}
 use Rattle.pyramid.proofs.Places.{none, All, size, all-places, places-inside}
@@ -92,10 +92,11 @@ select-low (suc R) h w stay P y x k l =
     size : ℕ
     size = (w / 2) * (h / 2)
 
-pub kept-range : (R h w : ℕ) → Fits R h w → (K : ℕ) (P : Image) → InRange R h w P → InRange R h w (kept R h w K P)
-kept-range R h w f K P r = record {
-  low = λ y x k l. subst⁻¹ (λ (z : ℤ). (n : ℕ) × (z ≡ pos n) × (n ≤ 4095 * 4 ^ R)) (select-low R h w (stays K (ranks R h w P)) P y x k l) (r .low y x k l);
-  tetrolet = λ k l. go (stays K (ranks R h w P) k) (at P (getD (tetroletPlaces R h w) k none)) (select-places 0 R h w f (stays K (ranks R h w P)) P k l) (r .tetrolet k l);
+-- a selection leaves a plane in range
+pub selected-range : (R h w : ℕ) → Fits R h w → (stay : ℕ → Bool) (P : Image) → InRange R h w P → InRange R h w (select R h w stay P)
+selected-range R h w f stay P r = record {
+  low = λ y x k l. subst⁻¹ (λ (z : ℤ). (n : ℕ) × (z ≡ pos n) × (n ≤ 4095 * 4 ^ R)) (select-low R h w stay P y x k l) (r .low y x k l);
+  tetrolet = λ k l. go (stay k) (at P (getD (tetroletPlaces R h w) k none)) (select-places 0 R h w f stay P k l) (r .tetrolet k l);
 }
   where
     go : (b : Bool) {z : ℤ} {m : ℕ} (y : ℤ) → z ≡ cond b y (pos 0) → natAbs y ≤ m → natAbs z ≤ m

@@ -22,6 +22,7 @@ pub enum Refusal {
     Mismatch, // 15, mismatch
     JoinedWidth, // 16, joined width
     Window, // 17, window
+    Unlisted, // 18, unlisted
 }
 
 // The answer of an entry that gives nothing but what it leaves in the slices.
@@ -58,6 +59,7 @@ pub fn number(r: Refusal) -> u8
         Refusal::Mismatch => 15,
         Refusal::JoinedWidth => 16,
         Refusal::Window => 17,
+        Refusal::Unlisted => 18,
     }
 }
 

@@ -1,24 +1,19 @@
--- `listing::restore_listed` meets its contract: the first three checks, the list, then restoring without one. Assumes nothing.
-use mathlib.Core.Path.{_≡_, sym, _∙_}
-use mathlib.Core.Bool.{not, true}
+-- `listing::restore_listed` meets its contract: the first three checks, those of the list, then restoring without one. Assumes nothing.
+use mathlib.Core.Path.{_≡_, _∙_}
+use mathlib.Core.Bool.{not}
 use borrow.Author.Needs.{needs}
-use borrow.Author.Tests.{not-false}
 use Rattle.refusals.specs.Refusal.{refuseIf}
-use Rattle.refusals.specs.declared.Refusal.the-variants.{Listing}
 use Rattle.refusals.proofs.After.{front-refused, front-passed}
-use Rattle.integers.specs.Lists.{every}
-use Rattle.coverings.specs.Entry.{isNumber}
-use Rattle.terms.specs.Terms.{isList}
 use Rattle.pyramid.specs.Ranges.{inRange}
 use Rattle.pyramid.specs.Slices.{imageOf}
-use Rattle.listing.specs.Entries.{restoreListedRefusal}
-use Rattle.listing.proofs.Together.{rejects-listed, with-list}
+use Rattle.listing.specs.Entries.{standRefusal, restoreListedRefusal}
+use Rattle.listing.proofs.Together.{rejects-listed, stood}
 use Rattle.listing.proofs.restore_listed.Statement.{statement}
 use Rattle.listing.proofs.restore_listed.Tie as tie
 
 -- the checks behind the first three
 behind : (c : tie.After-enum-told) → let a = c .before .before .before .before .before .before .before .before .before .args in
-    refuseIf (not (isList (a .list .now))) 14 (refuseIf (not (every isNumber (a .coverings .now))) 5 (refuseIf (not (inRange (a .levels) (a .height) (a .width) (imageOf (a .height) (a .plane .now)))) 6 0))
+    standRefusal (a .coverings .now) (a .list .now) (refuseIf (not (inRange (a .levels) (a .height) (a .width) (imageOf (a .height) (a .plane .now)))) 6 0)
     ≡ restoreListedRefusal (a .height) (a .width) (a .levels) (a .plane .now) (a .coverings .now) (a .list .now) (a .numerators .now) (a .samples .now) (a .scratch .now)
 behind c = front-passed _ (c .enum-told .given .1) (c .before .before .frame-checks .ensures _)
 
@@ -43,8 +38,11 @@ returns c = let g = c .before .framed .given in rejects-listed _ _ _ _ _ _ _ _ _
 enum-told : tie.Need-enum-told
 enum-told c = search needs
 
-is-list-requires : tie.Need-is-list-requires
-is-list-requires c κs = search needs
+stand-checks-requires : tie.Need-stand-checks-requires
+stand-checks-requires c κs = search needs
+
+enum-known-found : tie.Need-enum-known-found
+enum-known-found c = search needs
 
 same-length-4 : tie.Need-same-length-4
 same-length-4 c = search needs
@@ -56,7 +54,13 @@ same-length-6 : tie.Need-same-length-6
 same-length-6 c = search needs
 
 returns-2 : tie.Need-returns-2
-returns-2 c = rejects-listed _ _ _ _ _ _ _ _ _ Listing (rw (← behind (c .before .before), ← c .before .is-list .ensures, c .if1 .taken))
+returns-2 c =
+    let g = c .before .found .given in
+    let s = c .before .before .before in
+    rejects-listed _ _ _ _ _ _ _ _ _ (g .0 .0) (front-refused (g .0 .0) _ (g .1) (s .stand-checks .ensures _) ∙ behind (s .before))
+
+enum-told-2 : tie.Need-enum-told-2
+enum-told-2 c = search needs
 
 restore-requires : tie.Need-restore-requires
 restore-requires c κs = search needs
@@ -73,8 +77,7 @@ same-length-9 c = search needs
 returns-3 : tie.Need-returns-3
 returns-3 c =
     let e = c .before .before .before .before .before .before .before .before in
-    let good : isList (e .before .before .before .before .before .before .before .before .before .before .before .args .list .now) ≡ true = sym (e .before .is-list .ensures) ∙ not-false _ (e .if1 .left) in
-    with-list _ _ _ _ _ _ _ _ _ _ _ _ _ good (c .before .before .before .before .restore .ensures)
+    stood _ _ _ _ _ _ _ _ _ _ _ _ _ (front-passed 0 (e .enum-told2 .given .1) (e .before .before .stand-checks .ensures 0)) (c .before .before .before .before .restore .ensures)
 
 pub restore-listed-spec : {M : Type 1} → statement M
 restore-listed-spec =
@@ -87,11 +90,13 @@ restore-listed-spec =
     same-length-3
     returns
     enum-told
-    is-list-requires
+    stand-checks-requires
+    enum-known-found
     same-length-4
     same-length-5
     same-length-6
     returns-2
+    enum-told-2
     restore-requires
     same-length-7
     same-length-8

@@ -1,0 +1,27 @@
+-- `refusals::counted_code` meets its contract. Assumes nothing.
+use mathlib.Core.Path.{sym, ap, _∙_}
+use borrow.Author.Needs.{needs}
+use Rattle.refusals.specs.Refusal.{countedOf}
+use Rattle.refusals.proofs.counted_code.Statement.{statement}
+use Rattle.refusals.proofs.counted_code.Tie as tie
+
+enum-told : tie.Need-enum-told
+enum-told c = search needs
+
+enum-known-c : tie.Need-enum-known-c
+enum-known-c c = search needs
+
+number-requires : tie.Need-number-requires
+number-requires c κs = search needs
+
+cast-result : tie.Need-cast-result
+cast-result c = search needs
+
+returns : tie.Need-returns
+returns c = search needs
+
+returns-2 : tie.Need-returns-2
+returns-2 c = c .number .ensures ∙ sym (ap countedOf (c .before .before .c .given .1))
+
+pub counted-code-spec : {M : Type 1} → statement M
+counted-code-spec = tie.close (tie.spec enum-told enum-known-c number-requires cast-result returns returns-2)
