@@ -140,6 +140,22 @@ static void agree_windows(size_t height, size_t width, size_t levels, const int6
     }
 }
 
+/* Whether both restore plane and coverings alike by a list, in which they need not stand. Gives the answer. */
+static uint32_t agree_listed(size_t height, size_t width, size_t levels, const uint8_t *list, size_t count)
+{
+    size_t area = height * width, blocks = tetrolet_blocks(height, width, levels), bytes = area * sizeof(int64_t);
+    memcpy(numerators[1], numerators[0], bytes);
+    memcpy(samples[1], samples[0], area * sizeof(uint16_t));
+    memcpy(scratch[1], scratch[0], bytes);
+    uint32_t a = tetrolet_restore_listed(height, width, levels, plane[0], area, coverings[0], blocks, list, count, numerators[0], area, samples[0],
+                                         area, scratch[0], area);
+    uint32_t b = base_restore_listed(height, width, levels, plane[0], area, coverings[0], blocks, list, count, numerators[1], area, samples[1], area,
+                                     scratch[1], area);
+    check(a == b && !memcmp(numerators[0], numerators[1], bytes) && !memcmp(samples[0], samples[1], area * sizeof(uint16_t))
+              && !memcmp(scratch[0], scratch[1], bytes), "restorations with a list", height, width, levels);
+    return a;
+}
+
 /* Whether both give the same, through all entries. Gives whether two strips were joined too. */
 static int agree(size_t height, size_t width, size_t levels, int kind)
 {
@@ -161,6 +177,8 @@ static int agree(size_t height, size_t width, size_t levels, int kind)
                                       coverings[1], blocks, scratch[1], area);
             check(a == 0 && b == 0 && !memcmp(plane[0], plane[1], bytes) && !memcmp(coverings[0], coverings[1], blocks)
                       && !memcmp(scratch[0], scratch[1], bytes), "decompositions by a list", height, width, levels);
+            a = agree_listed(height, width, levels, lists[k].numbers, lists[k].count);
+            check(a == 0 && !memcmp(image, samples[0], area * sizeof *image), "an image and its restoration", height, width, levels);
         }
         a = tetrolet_decompose(height, width, levels, image, area, plane[0], area, coverings[0], blocks, scratch[0], area);
         b = base_decompose(form, height, width, levels, image, area, plane[1], area, coverings[1], blocks, scratch[1], area);
@@ -190,12 +208,8 @@ static int agree(size_t height, size_t width, size_t levels, int kind)
     b = base_restore(height, width, levels, plane[0], area, coverings[0], blocks, numerators[1], area, samples[1], area, scratch[1], area);
     check(a == 0 && b == 0 && !memcmp(numerators[0], numerators[1], bytes) && !memcmp(samples[0], samples[1], area * sizeof(uint16_t))
               && !memcmp(scratch[0], scratch[1], bytes), "restorations", height, width, levels);
-    a = tetrolet_restore_listed(height, width, levels, plane[0], area, coverings[0], blocks, sixteen, sizeof sixteen, numerators[0], area, samples[0],
-                                area, scratch[0], area);
-    b = base_restore_listed(height, width, levels, plane[0], area, coverings[0], blocks, sixteen, sizeof sixteen, numerators[1], area, samples[1],
-                            area, scratch[1], area);
-    check(a == 0 && b == 0 && !memcmp(numerators[0], numerators[1], bytes) && !memcmp(samples[0], samples[1], area * sizeof(uint16_t))
-              && !memcmp(scratch[0], scratch[1], bytes), "restorations with a list", height, width, levels);
+    a = agree_listed(height, width, levels, sixteen, sizeof sixteen);
+    check(a == 0 || a == TETROLET_UNLISTED, "answers with a list", height, width, levels);
     agree_windows(height, width, levels, plane[0], coverings[0], samples[0]);
     uint32_t start = (uint32_t)next();
     a = tetrolet_test_image(height, width, start, samples[0], area);
@@ -220,7 +234,8 @@ static int agree(size_t height, size_t width, size_t levels, int kind)
 
 struct times {
     double decompose, straight, shared, within[TOLERANCES], within_straight[TOLERANCES], within_shared[TOLERANCES];
-    double listed[LISTS], listed_straight[LISTS], listed_shared[LISTS], restore_listed, base_restore_listed; /* restored by sixteen */
+    double listed[LISTS], listed_straight[LISTS], listed_shared[LISTS];
+    double restore_listed, base_restore_listed, restore_sixteen; /* of the plane by sixteen: with the list, and without it */
     double restore, base_restore, keep, base_keep, write, digits, printed, read, base_read, usage, base_usage, test, base_test, join, base_join[2];
     double window[WINDOWS], base_window[WINDOWS];
     double kept_write, kept_digits, kept_read, kept_base_read; /* of the plane that keep leaves */
@@ -252,6 +267,7 @@ static struct times measure(size_t height, size_t width, size_t levels)
         }
         TIME(t.base_restore_listed, base_restore_listed(height, width, levels, p, area, c, blocks, sixteen, 16, n, area, samples[0], area, w, area));
         TIME(t.restore_listed, tetrolet_restore_listed(height, width, levels, p, area, c, blocks, sixteen, 16, n, area, samples[0], area, w, area));
+        TIME(t.restore_sixteen, tetrolet_restore(height, width, levels, p, area, c, blocks, n, area, samples[0], area, w, area));
         TIME(t.straight, base_decompose(BASE_STRAIGHT, height, width, levels, image, area, p, area, c, blocks, w, area));
         TIME(t.shared, base_decompose(BASE_SHARED, height, width, levels, image, area, p, area, c, blocks, w, area));
         TIME(t.decompose, tetrolet_decompose(height, width, levels, image, area, p, area, c, blocks, w, area));
@@ -485,6 +501,7 @@ int main(int argc, char **argv)
         line(name, t.listed[k], "shared", t.listed_shared[k], 0);
     }
     line("restore 16", t.restore_listed, "plain", t.base_restore_listed, 0);
+    line("restore 16", t.restore_listed, "no list", t.restore_sixteen, 0);
     line("restore", t.restore, "plain", t.base_restore, 1.3);
     line("keep", t.keep, "buckets", t.base_keep, 1.5);
     line("write", t.write, "digits", t.digits, 1.5);

@@ -46,7 +46,8 @@ enum {
     TETROLET_LIST = 14,         /* the list is empty, does not strictly rise, or holds 0 or a number over 117 */
     TETROLET_MISMATCH = 15,     /* join: the heights, the widths or the levels of the two strips differ */
     TETROLET_JOINED_WIDTH = 16, /* join: the joined width is over 512 */
-    TETROLET_WINDOW = 17        /* window: it has no cell, or reaches past the image */
+    TETROLET_WINDOW = 17,       /* window: it has no cell, or reaches past the image */
+    TETROLET_UNLISTED = 18      /* restore listed: a covering that some block uses is missing from the list */
 };
 
 /* The largest counts: samples of an image, coverings of an image, bytes of a sheet, bytes of a usage list. */
@@ -123,11 +124,12 @@ uint32_t tetrolet_restore(size_t height, size_t width, size_t levels, const int6
                           int64_t *scratch, size_t scratch_len);
 
 /*
- * Restores an image from a plane and the coverings of a list; it gives what tetrolet_restore gives. The call looks at the list itself only (14):
- * that it is the list which was used is the caller's word.
- *   list       a list of 1 to 117 covering numbers, strictly rising, read; a wrong length of it is 14, not 3
+ * Restores an image from a plane and the coverings of a list. Where each of the B coverings stands in the list it gives what tetrolet_restore gives;
+ * where one is missing the answer is 18, whatever the plane holds. What tetrolet_decompose_listed left is never refused with the list that it was lent,
+ * be the plane uncut or cut since.
+ *   list       a list of 1 to 117 covering numbers, strictly rising, read; it may hold numbers that no block uses; a wrong length of it is 14, not 3
  *   plane, coverings, numerators, samples, scratch    as for tetrolet_restore
- * Refusals: 1, 2, 3, 14, 5, 6.
+ * Refusals: 1, 2, 3, 14, 5, 18, 6.
  */
 uint32_t tetrolet_restore_listed(size_t height, size_t width, size_t levels, const int64_t *plane, size_t plane_len, const uint8_t *coverings,
                                  size_t coverings_len, const uint8_t *list, size_t list_len, int64_t *numerators, size_t numerators_len,

@@ -452,6 +452,30 @@ static struct slice *lend_list(void)
     return list;
 }
 
+/* A list made for coverings: those used, at times with others beside them, at times without that of some block, more often of the last. */
+static struct slice *lend_used(const struct slice *coverings)
+{
+    const uint8_t *c = coverings->base;
+    uint8_t wanted[256] = { 0 };
+    size_t n = 0, k = 0;
+    uint64_t kind = below(4);
+    for (size_t i = 0; i < coverings->len; i++)
+        wanted[c[i]] = 1;
+    if (kind == 1)
+        for (size_t number = 1; number <= 117; number++)
+            wanted[number] |= once_in(8);
+    if (kind == 2 && coverings->len > 0)
+        wanted[c[once_in(2) ? coverings->len - 1 : below(coverings->len)]] = 0;
+    for (size_t number = 1; number <= 117; number++)
+        n += wanted[number];
+    struct slice *list = lend(n, 1);
+    uint8_t *p = list->base;
+    for (size_t number = 1; number <= 117; number++)
+        if (wanted[number])
+            p[k++] = (uint8_t)number;
+    return list;
+}
+
 /* Whether a list is that of all 117. */
 static int lists_all(const struct slice *list)
 {
@@ -736,6 +760,30 @@ static void call_within(struct tally *t)
                                         plane->len, coverings->base, coverings->len, scratch->base, scratch->len));
 }
 
+/* What decomposing by a list left is restored by that list, and is the image; cut once more, it is restored too. */
+static void is_restored_by(struct frame f, const struct slice *list, const struct slice *plane, const struct slice *coverings, const struct slice *samples)
+{
+    size_t n = plane->len, left;
+    int64_t *cut = malloc(n * sizeof *cut), *numerators = malloc(n * sizeof *numerators), *scratch = malloc(n * sizeof *scratch);
+    uint16_t *image = malloc(n * sizeof *image);
+    memcpy(cut, plane->lib, n * sizeof *cut);
+    for (int k = 0; k < 2; k++) {
+        if (tetrolet_restore_listed(f.height, f.width, f.levels, cut, n, coverings->lib, coverings->len, list->lib, list->len, numerators, n, image, n,
+                                    scratch, n) != 0)
+            differ("what was decomposed by a list is not restored by it");
+        if (k == 0 && memcmp(image, samples->lib, n * sizeof *image) != 0)
+            differ("what was decomposed by a list is not restored to the image");
+        if (once_in(2))
+            tetrolet_keep(f.height, f.width, f.levels, cut, n, below(n + 1), &left);
+        else
+            tetrolet_threshold(f.height, f.width, f.levels, cut, n, below(2000), &left);
+    }
+    free(cut);
+    free(numerators);
+    free(scratch);
+    free(image);
+}
+
 static void call_listed(struct tally *t)
 {
     struct frame f = make_frame();
@@ -757,6 +805,8 @@ static void call_listed(struct tally *t)
                                                    scratch->len));
     compare(t, a, base_decompose_listed((int)below(2), f.height, f.width, f.levels, tolerance, samples->base, samples->len, list->base, list->len,
                                         plane->base, plane->len, coverings->base, coverings->len, scratch->base, scratch->len));
+    if (a == 0)
+        is_restored_by(f, list, plane, coverings, samples);
 }
 
 static void call_restore(struct tally *t)
@@ -777,20 +827,21 @@ static void call_restore(struct tally *t)
                                samples->base, samples->len, scratch->base, scratch->len));
 }
 
-/* Coverings and list are made apart, so that many of the coverings are not in the list. */
+/* Half of the lists are made for the coverings; the others apart from them, so that many of the coverings are missing. */
 static void call_restore_listed(struct tally *t)
 {
     struct frame f = make_frame();
     count_strip(t, f);
-    struct slice *plane = lend(length_near(f.area), 8), *coverings = lend(length_near(f.blocks), 1), *list = lend_list(),
-                 *numerators = lend(length_near(f.area), 8), *samples = lend(length_near(f.area), 2), *scratch = lend(length_near(f.area), 8);
+    struct slice *plane = lend(length_near(f.area), 8), *coverings = lend(length_near(f.blocks), 1), *numerators = lend(length_near(f.area), 8),
+                 *samples = lend(length_near(f.area), 2), *scratch = lend(length_near(f.area), 8);
     fill_plane(plane->base, plane->len, f);
     fill_coverings(coverings->base, coverings->len);
+    struct slice *list = once_in(2) ? lend_used(coverings) : lend_list();
     settle();
     uint32_t a = tetrolet_restore_listed(f.height, f.width, f.levels, plane->lib, plane->len, coverings->lib, coverings->len, list->lib, list->len,
                                          numerators->lib, numerators->len, samples->lib, samples->len, scratch->lib, scratch->len);
     unchanged(list);
-    if (a != TETROLET_LIST)
+    if (a != TETROLET_LIST && a != TETROLET_UNLISTED)
         compare_entries(a, tetrolet_restore(f.height, f.width, f.levels, plane->base, plane->len, coverings->base, coverings->len, numerators->base,
                                             numerators->len, samples->base, samples->len, scratch->base, scratch->len));
     if (asks_plain(f.area))

@@ -119,7 +119,7 @@ pub extern "C" fn tetrolet_decompose_listed(
     ))
 }
 
-// Restores with a list of coverings; that it is the list which was used is the caller's word.
+// Restores with a list of coverings, in which each block's must stand.
 #[no_mangle]
 pub extern "C" fn tetrolet_restore_listed(
     height: usize,

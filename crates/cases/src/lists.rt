@@ -1,7 +1,9 @@
 // Generated lists of coverings, told by a kind and a seed. Good ones: kind 0 one covering, 1 the last, 2 sixteen, 3 all 117. Those that an entry refuses:
 // 4 an empty one; sixteen of which 5 two have changed places, 6 one stands twice, 7 the first is 0, 8 the last is 118, 9 the last is 255; 10 the numbers 1 to
-// 118; 11 as many as 300 numbers.
+// 118; 11 as many as 300 numbers. Those made for coverings: 12 the coverings used, 13 those and covering 1, 14 those used but the last block's, 15 all 117 but
+// the first block's.
 use crate::inputs::mixed;
+use crate::safe::byte_at;
 use crate::safe::minus;
 use crate::safe::plus;
 use crate::safe::put_byte;
@@ -81,6 +83,45 @@ pub fn fill_list(kind: usize, seed: usize, list: &mut [u8]) {
 
 // The list of this kind, where a slice was filled with it.
 pub fn lent(kind: usize, list: &[u8]) -> &[u8] {
-    let n = length_of(kind);
+    first(length_of(kind), list)
+}
+
+fn is_used(coverings: &[u8], n: usize) -> bool {
+    let mut i: usize = 0;
+    while i < coverings.len() {
+        if byte_at(coverings, i) as usize == n {
+            return true;
+        }
+        i += 1;
+    }
+    false
+}
+
+// Whether the list of a kind from 12 on holds this number.
+fn is_wanted(kind: usize, coverings: &[u8], n: usize) -> bool {
+    match kind {
+        12 => is_used(coverings, n),
+        13 => (n == 1) | is_used(coverings, n),
+        14 => (n != byte_at(coverings, minus(coverings.len(), 1)) as usize) & is_used(coverings, n),
+        _ => n != byte_at(coverings, 0) as usize,
+    }
+}
+
+// Fills the front of a slice with a list for these coverings, of a kind from 12 on, and gives its length. The next number goes over one that is not wanted.
+pub fn fill_used(kind: usize, coverings: &[u8], list: &mut [u8]) -> usize {
+    let mut length: usize = 0;
+    let mut n: usize = 1;
+    while n <= 117 {
+        put_byte(list, length, n);
+        if is_wanted(kind, coverings, n) {
+            length = plus(length, 1);
+        }
+        n += 1;
+    }
+    length
+}
+
+// The first `n` places.
+pub fn first(n: usize, list: &[u8]) -> &[u8] {
     if n <= list.len() { &list[..n] } else { list }
 }

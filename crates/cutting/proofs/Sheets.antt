@@ -27,9 +27,9 @@ use Rattle.pyramid.proofs.Choose.{covers-length, covers-numbers}
 use Rattle.pyramid.proofs.Slices.{slice-length}
 use Rattle.places.proofs.Sides.{passed}
 use Rattle.quota.specs.Quota.{keptOf, quotaLimit}
-use Rattle.quota.proofs.Accepted.{kept-accepted}
+use Rattle.quota.proofs.Accepted.{selected-accepted}
 use Rattle.coder.specs.Entries.{isSample, decomposeRefusal, Decomposed}
-use Rattle.coder.proofs.Gates.{small-samples}
+use Rattle.coder.proofs.Gates.{truth, small-samples}
 use Rattle.keeping.specs.Entries.{keepRefusal, Kept}
 use Rattle.sheet_text.specs.Sheet.{sheetText, writeRefusal}
 use Rattle.sheet.specs.Write.{WriteAnswered}
@@ -110,11 +110,7 @@ module _ (h w R : ℕ) (s : List ℕ) (a : isSides h w ≡ true) (b : isDepth R 
         go (suc r) f l = plane-accepted r h w f (coversOf (suc r) h w s) s below
 
     kept-ranges : (K : ℕ) → inRange R h w (imageOf h (keptOf R h w K P)) ≡ true
-    kept-ranges K = let q = passed h w R a b in is-true (inRange R h w (imageOf h (keptOf R h w K P))) (go R (q .fits) (q .some-level))
-      where
-        go : (r : ℕ) → Fits r h w → 1 ≤ r → T (inRange r h w (imageOf h (keptOf r h w K (planeOf r h w s))))
-        go zero f l = absurd (omega arith)
-        go (suc r) f l = kept-accepted r h w f (coversOf (suc r) h w s) s below K
+    kept-ranges K = let q = passed h w R a b in is-true _ (selected-accepted R h w (q .some-level) (q .fits) _ P (truth ranges))
 
     numbers : every isNumber C ≡ true
     numbers =

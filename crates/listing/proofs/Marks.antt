@@ -10,7 +10,7 @@ use borrow.Author.Tests.{eq-eqb, ne-eqb}
 use lib.ListN.{length, getD, drop, drop-of-length-le, replicate, getD-replicate, set, length-set}
 use lib.Seq.{drop-cons, getD-set-same, getD-set-other}
 use Rattle.integers.specs.Lists.{oneOf}
-use Rattle.listing.specs.Marks.{Marked}
+use Rattle.listing.specs.Standing.{Marked}
 
 -- a number is marked, or among those still to come, just if it is in the list
 abbrev pub Marking : List ℕ → ℕ → List Bool → Type 0

@@ -27,7 +27,8 @@ use Rattle.coder.proofs.Gates.{truth, Decomposable, tolerance-past, tolerance-p
 use Rattle.coder.proofs.Together.{found, left-by, picture-of}
 use Rattle.quota.specs.Quota.{select}
 use Rattle.quota.proofs.Accepted.{selected-accepted}
-use Rattle.listing.specs.Entries.{listedRefusal, DecomposedListed, standRefusal, restoreListedRefusal, RestoredListed}
+use Rattle.listing.specs.Entries.{listedRefusal, DecomposedListed, restoreListedRefusal, RestoredListed}
+use Rattle.listing.specs.Standing.{standRefusal}
 use Rattle.listing.specs.Claims.{Stand, Cuts, uncut, keep, threshold, ListingLaws}
 
 -- ---- decomposing

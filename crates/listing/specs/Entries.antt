@@ -29,21 +29,15 @@ pub record DecomposedListed (height width levels tolerance : ℕ) (samples list 
   pub zeros : scratch′ ≡ afterCall n (replicate (width * height) (pos 0)) scratch
 
 -- The same, "and directly after 3 when restoring". Wish 10: "tests that every covering used stands in it"; "18 when a covering that some block uses is missing
--- from the list, after 5 and before 6". Each entry of the coverings is some block's, by 3. Behind these three checks go the others.
-abbrev pub standRefusal : List ℕ → List ℕ → ℕ → ℕ
-standRefusal coverings list rest =
-    refuseIf (not (isList list)) 14
-    (refuseIf (not (every isNumber coverings)) 5
-    (refuseIf (not (every (oneOf list) coverings)) 18
-    rest))
-
--- Restoring: 1 2 3 14 5 18 6.
+-- from the list, after 5 and before 6": 1 2 3 14 5 18 6. Each entry of the coverings is some block's, by 3.
 abbrev pub restoreListedRefusal : ℕ → ℕ → ℕ → List ℤ → List ℕ → List ℕ → List ℤ → List ℕ → List ℤ → ℕ
 restoreListedRefusal height width levels plane coverings list numerators samples scratch =
     frameRefusal height width levels plane coverings numerators samples scratch
-    (standRefusal coverings list
+    (refuseIf (not (isList list)) 14
+    (refuseIf (not (every isNumber coverings)) 5
+    (refuseIf (not (every (oneOf list) coverings)) 18
     (refuseIf (not (inRange levels height width (imageOf height plane))) 6
-    0))
+    0))))
 
 -- What restoring with a list answers and leaves. Wish 10: "Sheets whose coverings do stand there give the samples they gave".
 pub record RestoredListed (height width levels : ℕ) (plane : List ℤ) (coverings list : List ℕ) (numerators numerators′ : List ℤ) (samples samples′ : List ℕ) (scratch scratch′ : List ℤ) (n : ℕ) : Type 0 where

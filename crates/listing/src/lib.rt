@@ -7,8 +7,8 @@ ghost use Rattle.refusals.specs.Refusal.{answerOf, afterCall};
 ghost use Rattle.integers.specs.Lists.{every, oneOf};
 ghost use Rattle.terms.specs.Terms.{isList};
 ghost use Rattle.listing.specs.Claims.{ListingLaws};
-ghost use Rattle.listing.specs.Entries.{listedRefusal, DecomposedListed, standRefusal, RestoredListed};
-ghost use Rattle.listing.specs.Marks.{Marked};
+ghost use Rattle.listing.specs.Entries.{listedRefusal, DecomposedListed, RestoredListed};
+ghost use Rattle.listing.specs.Standing.{Marked, standRefusal};
 use refusals::Answer;
 use refusals::Refusal;
 

@@ -20,6 +20,7 @@ use plain_frame::frame::contents;
 use plain_frame::frame::is_list;
 use plain_frame::frame::lengths;
 use plain_frame::frame::level_blocks;
+use plain_frame::frame::listed_contents;
 use plain_frame::frame::power;
 use plain_frame::safe::add;
 use plain_frame::safe::byte_at;
@@ -690,7 +691,7 @@ pub fn restore(
     0
 }
 
-// Checks 1, 2, 3, 14, 5 and 6; the last three are the lengths of their slices.
+// Checks 1, 2, 3, 14, 5, 18 and 6; the last three are the lengths of their slices.
 fn restore_listed_refusal(
     extent: Extent,
     levels: usize,
@@ -713,13 +714,10 @@ fn restore_listed_refusal(
     if bad != 0 {
         return bad;
     }
-    if !is_list(list) {
-        return 14;
-    }
-    contents(extent, levels, plane, coverings)
+    listed_contents(extent, levels, plane, coverings, list)
 }
 
-// Restores a picture from its plane, with a list. That the coverings stand in it is not asked. `words` are those of `list_words`.
+// Restores a picture from its plane, with a list in which each covering stands. `words` are those of `list_words`.
 pub fn restore_listed(
     words: &[u8],
     height: usize,

@@ -359,6 +359,38 @@ pub fn contents(extent: Extent, levels: usize, plane: &[i64], coverings: &[u8]) 
     0
 }
 
+// Check 18.
+fn all_listed(coverings: &[u8], list: &[u8]) -> bool {
+    let mut i: usize = 0;
+    while i < coverings.len() {
+        if times_chosen(list, list.len(), byte_at(coverings, i)) == 0 {
+            return false;
+        }
+        i += 1;
+    }
+    true
+}
+
+// Checks 14, 5, 18 and 6.
+pub fn listed_contents(
+    extent: Extent,
+    levels: usize,
+    plane: &[i64],
+    coverings: &[u8],
+    list: &[u8],
+) -> u32 {
+    if !is_list(list) {
+        return 14;
+    }
+    if !all_coverings(coverings) {
+        return 5;
+    }
+    if !all_listed(coverings, list) {
+        return 18;
+    }
+    contents(extent, levels, plane, coverings)
+}
+
 // How often the first `end` places hold the covering.
 pub fn times_chosen(coverings: &[u8], end: usize, covering: u8) -> usize {
     let mut n: usize = 0;

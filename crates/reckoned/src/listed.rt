@@ -158,7 +158,7 @@ fn flat(height: usize, levels: usize, samples: usize, sample: u16) -> Picture {
     }
 }
 
-// Both entries with this list, where nothing else is refused.
+// Both entries with this list, where nothing else is refused: of a good list the first number is the block's covering.
 fn lend(words: &[u8], length: usize, first: u8, second: u8) {
     let l = List {
         length: length,
@@ -171,7 +171,9 @@ fn lend(words: &[u8], length: usize, first: u8, second: u8) {
         b"decompose",
         decompose(words, flat(4, 1, 16, 4095), 4095, l),
     );
-    end(tell(d, b"restore", restore(words, zeros(4, 4, 1, 16, 1), l)));
+    let mut k = zeros(4, 4, 1, 16, 1);
+    k.covering = first;
+    end(tell(d, b"restore", restore(words, k, l)));
 }
 
 // Good lists of one number, of two and of all; and an empty one, a number twice, one that falls, 0, 118, 255, and more than 117 numbers.
@@ -249,9 +251,10 @@ fn restore_plane(
     tell_one(b"restore", restore(words, k, l));
 }
 
-// Restoring looks at the list before it looks at what plane and coverings hold.
+// Restoring looks at the list before it looks at what plane and coverings hold. Of the list that falls covering 3 is missing.
 pub fn restoring(words: &[u8]) {
     let l = falling();
+    restore_plane(words, 4, 1, 16, 3, 0, l);
     restore_plane(words, 4, 1, 16, 0, 0, l);
     restore_plane(words, 4, 1, 16, 1, -1, l);
     restore_plane(words, 4, 1, 15, 0, -1, l);
@@ -259,14 +262,21 @@ pub fn restoring(words: &[u8]) {
     restore_plane(words, 6, 2, 15, 0, -1, l);
 }
 
-// With a good list: a covering that is none, a value out of its range, and a covering that is not in the list, which is not asked.
-pub fn outside(words: &[u8]) {
+// With a good list and a value out of its range: a covering that is none, one that is missing, and one that is not. With a value in its range: one that is
+// missing, and the list's first and last.
+pub fn missing(words: &[u8]) {
     let l = List {
-        length: 1,
+        length: 2,
         first: 2,
-        second: 0,
+        second: 116,
     };
     restore_plane(words, 4, 1, 16, 0, -1, l);
+    restore_plane(words, 4, 1, 16, 118, -1, l);
+    restore_plane(words, 4, 1, 16, 1, -1, l);
+    restore_plane(words, 4, 1, 16, 117, -1, l);
     restore_plane(words, 4, 1, 16, 2, -1, l);
     restore_plane(words, 4, 1, 16, 117, 4095, l);
+    restore_plane(words, 4, 1, 16, 3, 4095, l);
+    restore_plane(words, 4, 1, 16, 2, 4095, l);
+    restore_plane(words, 4, 1, 16, 116, 4095, l);
 }

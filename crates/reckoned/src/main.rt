@@ -92,7 +92,8 @@ fn limits(words: &[u8]) {
     listed::limits(words);
     listed::decomposing(words);
     listed::restoring(words);
-    listed::outside(words);
+    heading(b"18 unlisted");
+    listed::missing(words);
 }
 
 fn main() {

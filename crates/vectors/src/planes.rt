@@ -3,6 +3,8 @@ use case_planes::case_at;
 use case_planes::fill;
 use cases::inputs::Case;
 use cases::lists::fill_list;
+use cases::lists::fill_used;
+use cases::lists::first;
 use cases::lists::lent;
 use cases::tally::Tally;
 use cases::tally::Verdict;
@@ -160,8 +162,17 @@ fn compare(
     )
 }
 
-// Two ways on the plane of a case, with this list.
-fn two_ways(words: &[u8], k: Case, way: Way, way2: Way, list: &[u8]) -> Verdict {
+// Fills a slice with a list of a kind, and gives its length.
+fn fill_kind(kind: usize, k: Case, coverings: &[u8], list: &mut [u8]) -> usize {
+    if 11 < kind {
+        return fill_used(kind, coverings, list);
+    }
+    fill_list(kind, k.seed, list);
+    lent(kind, list).len()
+}
+
+// Two ways on the plane of a case, with a list of this kind, which holds after both what it held before.
+fn two_ways(words: &[u8], k: Case, way: Way, way2: Way, kind: usize) -> Verdict {
     let n = k.n;
     let b = k.b;
     if 1024 < n {
@@ -173,11 +184,26 @@ fn two_ways(words: &[u8], k: Case, way: Way, way2: Way, list: &[u8]) -> Verdict 
     let mut plane = [0i64; 1024];
     let mut coverings = [1u8; 512];
     fill(k, &mut plane, &mut coverings);
-    compare(words, k, way, way2, &plane[..n], &coverings[..b], list)
+    let mut list = [0u8; 300];
+    let length = fill_kind(kind, k, &coverings[..b], &mut list);
+    let before = list;
+    let v = compare(
+        words,
+        k,
+        way,
+        way2,
+        &plane[..n],
+        &coverings[..b],
+        first(length, &list),
+    );
+    if !same_bytes(&list, &before) {
+        return Verdict::Differs;
+    }
+    v
 }
 
 fn one_plane(words: &[u8], k: Case) -> Verdict {
-    two_ways(words, k, Way::Coder, Way::Plain, b"")
+    two_ways(words, k, Way::Coder, Way::Plain, 4)
 }
 
 pub fn group(words: &[u8]) -> Tally {
@@ -192,31 +218,19 @@ pub fn group(words: &[u8]) -> Tally {
     t
 }
 
-// With a list of this kind, which holds after both what it held before.
-fn one_listed(words: &[u8], k: Case, kind: usize) -> Verdict {
-    let mut list = [0u8; 300];
-    fill_list(kind, k.seed, &mut list);
-    let before = list;
-    let v = two_ways(
-        words,
-        k,
-        Way::CoderListed,
-        Way::PlainListed,
-        lent(kind, &list),
-    );
-    if !same_bytes(&list, &before) {
-        return Verdict::Differs;
-    }
-    v
-}
-
-// The same planes, each with a list, of a kind by its seed. Most of the coverings are in no list but that of all 117.
+// The same planes, each with a list, of a kind by its seed.
 pub fn listed_group(words: &[u8]) -> Tally {
     let mut t = cases::tally::none();
     let mut c: usize = 0;
     while c < 16128 {
         let k = case_at(c);
-        let v = one_listed(words, k, k.seed / 4 % 12);
+        let v = two_ways(
+            words,
+            k,
+            Way::CoderListed,
+            Way::PlainListed,
+            k.seed / 4 % 16,
+        );
         t = cases::tally::counted_case(t, k, v);
         c += 1;
     }

@@ -6,7 +6,8 @@ use Rattle.refusals.specs.Refusal.{refuseIf}
 use Rattle.refusals.proofs.After.{front-refused, front-passed}
 use Rattle.pyramid.specs.Ranges.{inRange}
 use Rattle.pyramid.specs.Slices.{imageOf}
-use Rattle.listing.specs.Entries.{standRefusal, restoreListedRefusal}
+use Rattle.listing.specs.Entries.{restoreListedRefusal}
+use Rattle.listing.specs.Standing.{standRefusal}
 use Rattle.listing.proofs.Together.{rejects-listed, stood}
 use Rattle.listing.proofs.restore_listed.Statement.{statement}
 use Rattle.listing.proofs.restore_listed.Tie as tie

@@ -20,8 +20,8 @@ loop-holds c = search needs
 case-at-requires : tie.Need-case-at-requires Inv-loop μ-loop
 case-at-requires c κs = search needs
 
-one-listed-requires : tie.Need-one-listed-requires Inv-loop μ-loop
-one-listed-requires c κs = search needs
+two-ways-requires : tie.Need-two-ways-requires Inv-loop μ-loop
+two-ways-requires c κs = search needs
 
 counted-case-requires : tie.Need-counted-case-requires Inv-loop μ-loop
 counted-case-requires c κs = search needs
@@ -47,7 +47,7 @@ listed-group-spec =
     none-requires
     loop-holds
     case-at-requires
-    one-listed-requires
+    two-ways-requires
     counted-case-requires
     add-c
     loop-less
