@@ -129,6 +129,9 @@ int main(void)
                                                        AREA, samples, AREA, scratch, AREA));
     printf("with a list of %zu coverings: %d different ones, squared distance %ld; with all 117: %d, %ld\n", sizeof sixteen, different(coverings),
            squared_distance(samples, image), kinds, distance);
+    printf("the sheet, whose coverings are out of all 117, with that list: refused by %u\n",
+           (unsigned)tetrolet_restore_listed(height, width, levels, plane_read, AREA, coverings_read, BLOCKS, sixteen, sizeof sixteen, numerators, AREA,
+                                             samples, AREA, scratch, AREA));
 
     /* Columns stand one after the other, so the left half of the image is the first half of its samples. */
     static int64_t halves[AREA], half_numerators[AREA];

@@ -672,6 +672,9 @@ fn run() -> Answer<()> {
         different(&coverings),
         squared_distance(&image, &samples)
     );
+    if let Err(refusal) = restored_by(strip.plane, strip.coverings, &SIXTEEN) {
+        println!("the sheet, whose coverings are out of all 117, with that list: refused by {refusal}");
+    }
 
     // Columns stand one after the other, so the left half of the image is the first half of its samples.
     let (mut left, left_coverings) = planed(HALF_WIDTH, &image[..HALF])?;
