@@ -265,9 +265,17 @@ static struct times measure(size_t height, size_t width, size_t levels)
             TIME(t.listed_shared[k], base_decompose_listed(BASE_SHARED, height, width, levels, 0, image, area, list, count, p, area, c, blocks, w, area));
             TIME(t.listed[k], tetrolet_decompose_listed(height, width, levels, 0, image, area, list, count, p, area, c, blocks, w, area));
         }
-        TIME(t.base_restore_listed, base_restore_listed(height, width, levels, p, area, c, blocks, sixteen, 16, n, area, samples[0], area, w, area));
-        TIME(t.restore_listed, tetrolet_restore_listed(height, width, levels, p, area, c, blocks, sixteen, 16, n, area, samples[0], area, w, area));
-        TIME(t.restore_sixteen, tetrolet_restore(height, width, levels, p, area, c, blocks, n, area, samples[0], area, w, area));
+        for (int k = 0; k < 4; k++) /* what goes before a call is worth more than the list, so the order turns round in every other run */
+            switch ((run & 1 ? 3 - k : k) % 3) {
+            case 0:
+                TIME(t.base_restore_listed, base_restore_listed(height, width, levels, p, area, c, blocks, sixteen, 16, n, area, samples[0], area, w, area));
+                break;
+            case 1:
+                TIME(t.restore_listed, tetrolet_restore_listed(height, width, levels, p, area, c, blocks, sixteen, 16, n, area, samples[0], area, w, area));
+                break;
+            default:
+                TIME(t.restore_sixteen, tetrolet_restore(height, width, levels, p, area, c, blocks, n, area, samples[0], area, w, area));
+            }
         TIME(t.straight, base_decompose(BASE_STRAIGHT, height, width, levels, image, area, p, area, c, blocks, w, area));
         TIME(t.shared, base_decompose(BASE_SHARED, height, width, levels, image, area, p, area, c, blocks, w, area));
         TIME(t.decompose, tetrolet_decompose(height, width, levels, image, area, p, area, c, blocks, w, area));
