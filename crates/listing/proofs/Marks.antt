@@ -1,6 +1,6 @@
 -- The marks of a list, as the loop that makes them goes along it. Assumes nothing.
 use mathlib.Core.Path.{_≡_, refl, sym, ap, _∙_}
-use mathlib.Core.Bool.{Bool, true, false, _||_}
+use mathlib.Core.Bool.{Bool, true, false, _||_, or-true, or-false}
 use mathlib.Core.List.{List}
 use Prim.Native.Nat.{ℕ, _+_, _≤_, _<_}
 use native.Mathlib.Decide.{ℕ-discrete}
@@ -18,14 +18,6 @@ Marking l i marks = (length marks ≡ 256) × ((n : ℕ) → n < 256 → (getD m
 
 pub marks-none : (l : List ℕ) → Marking l 0 (replicate 256 false)
 marks-none l = (refl, λ n h. rw (getD-replicate 256 n false false h) refl)
-
-or-true : (b : Bool) → (b || true) ≡ true
-or-true true = refl
-or-true false = refl
-
-or-false : (b : Bool) → (b || false) ≡ b
-or-false true = refl
-or-false false = refl
 
 module _ (l : List ℕ) (i : ℕ) (marks : List Bool) (m : Marking l i marks) where
   pub marks-next : i < length l → getD l i 0 < 256 → Marking l (i + 1) (set marks (getD l i 0) true)

@@ -1,5 +1,6 @@
 -- The laws of the entries with a list together. Assumes nothing.
 use mathlib.Core.Path.{_≡_, refl, sym, ap, _∙_, subst⁻¹}
+use mathlib.Core.Logic.{_↔_}
 use mathlib.Core.Bool.{Bool, true, false, not, _&&_}
 use mathlib.Core.List.{List}
 use Prim.Native.Nat.{ℕ, zero, suc, _*_, _≤_, _<_}
@@ -127,13 +128,14 @@ module _ (height width levels : ℕ) (plane : List ℤ) (coverings list : List �
       go false c = refl
       go true c = rw (every-through isNumber (oneOf list) coverings (λ n t. is-true (oneOf list n) (subst⁻¹ (λ (l : List ℕ). T (oneOf l n)) e (lists.all-listed n .1 (is-number n t)))) c) refl
 
--- where the numbers are the same
-module _ (height width levels : ℕ) (plane : List ℤ) (coverings list : List ℕ) (numerators numerators′ : List ℤ) (samples samples′ : List ℕ) (scratch scratch′ : List ℤ) (n : ℕ) (number : restoreListedRefusal height width levels plane coverings list numerators samples scratch ≡ restoreRefusal height width levels plane coverings numerators samples scratch) where
-  with-list : Restored height width levels plane coverings numerators numerators′ samples samples′ scratch scratch′ n → RestoredListed height width levels plane coverings list numerators numerators′ samples samples′ scratch scratch′ n
-  with-list d = record { number = d .number ∙ sym number; values = d .values; image = d .image; zeros = d .zeros }
-
-  without-list : RestoredListed height width levels plane coverings list numerators numerators′ samples samples′ scratch scratch′ n → Restored height width levels plane coverings numerators numerators′ samples samples′ scratch scratch′ n
-  without-list d = record { number = d .number ∙ number; values = d .values; image = d .image; zeros = d .zeros }
+-- where the number is that without a list, all is
+as-without : (height width levels : ℕ) (plane : List ℤ) (coverings list : List ℕ) (numerators numerators′ : List ℤ) (samples samples′ : List ℕ) (scratch scratch′ : List ℤ) (n : ℕ)
+    → restoreListedRefusal height width levels plane coverings list numerators samples scratch ≡ restoreRefusal height width levels plane coverings numerators samples scratch
+    → RestoredListed height width levels plane coverings list numerators numerators′ samples samples′ scratch scratch′ n ↔ Restored height width levels plane coverings numerators numerators′ samples samples′ scratch scratch′ n
+as-without height width levels plane coverings list numerators numerators′ samples samples′ scratch scratch′ n e = (
+  (λ d. record { number = d .number ∙ e; values = d .values; image = d .image; zeros = d .zeros }),
+  (λ d. record { number = d .number ∙ sym e; values = d .values; image = d .image; zeros = d .zeros }),
+)
 
 -- what the checks of the list let through
 pub stood : (height width levels : ℕ) (plane : List ℤ) (coverings list : List ℕ) (numerators numerators′ : List ℤ) (samples samples′ : List ℕ) (scratch scratch′ : List ℤ) (n : ℕ)
@@ -141,7 +143,7 @@ pub stood : (height width levels : ℕ) (plane : List ℤ) (coverings list : Lis
 stood height width levels plane coverings list numerators numerators′ samples samples′ scratch scratch′ n e =
     let g = past (isList list) 13 e in
     let s = past (every (oneOf list) coverings) 17 (past (every isNumber coverings) 4 (g .1) .1) in
-    with-list height width levels plane coverings list numerators numerators′ samples samples′ scratch scratch′ n (same-number height width levels plane coverings list numerators samples scratch (g .0) (s .0))
+    as-without height width levels plane coverings list numerators numerators′ samples samples′ scratch scratch′ n (same-number height width levels plane coverings list numerators samples scratch (g .0) (s .0)) .1
 
 -- ---- restoring what decomposing left
 
@@ -197,11 +199,9 @@ laws = record {
   unnumbered = unnumbered;
   missing = missing;
   same = λ height width levels plane coverings list numerators numerators′ samples samples′ scratch scratch′ n g s.
-      let e = same-number height width levels plane coverings list numerators samples scratch (is-true (isList list) g) (stands list coverings s) in
-      (without-list height width levels plane coverings list numerators numerators′ samples samples′ scratch scratch′ n e, with-list height width levels plane coverings list numerators numerators′ samples samples′ scratch scratch′ n e);
+      as-without height width levels plane coverings list numerators numerators′ samples samples′ scratch scratch′ n (same-number height width levels plane coverings list numerators samples scratch (is-true (isList list) g) (stands list coverings s));
   fullRestored = λ height width levels plane coverings list numerators numerators′ samples samples′ scratch scratch′ n g k.
-      let e = full-number height width levels plane coverings list numerators samples scratch (is-true (isList list) g) (lists.full list g .0 k) in
-      (without-list height width levels plane coverings list numerators numerators′ samples samples′ scratch scratch′ n e, with-list height width levels plane coverings list numerators numerators′ samples samples′ scratch scratch′ n e);
+      as-without height width levels plane coverings list numerators numerators′ samples samples′ scratch scratch′ n (full-number height width levels plane coverings list numerators samples scratch (is-true (isList list) g) (lists.full list g .0 k));
   used = λ height width levels tolerance samples list plane plane′ coverings coverings′ scratch scratch′ d. stand list coverings′ (left-of height width levels tolerance samples list plane plane′ coverings coverings′ scratch scratch′ d .stand);
   own = λ height width levels tolerance samples list plane plane′ cut coverings coverings′ scratch scratch′ d. own height width levels tolerance samples list plane plane′ coverings coverings′ scratch scratch′ d cut;
 }

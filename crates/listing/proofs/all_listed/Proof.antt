@@ -1,11 +1,10 @@
 -- `listing::all_listed` meets its contract. The loop's invariant: each covering is in the list where each that is left is. Assumes nothing.
 use mathlib.Core.Path.{_≡_, refl, sym, _∙_}
-use mathlib.Core.Bool.{false, true}
-use Prim.Native.Nat.{_-_, _≤_, _<_}
+use Prim.Native.Nat.{_-_, _≤_}
 use native.Mathlib.Omega.{arith}
 use borrow.Author.Needs.{needs}
 use borrow.Author.Tests.{not-true, not-false}
-use lib.ListN.{length, getD, drop}
+use lib.ListN.{length, drop}
 use Rattle.integers.specs.Lists.{every, oneOf}
 use Rattle.integers.proofs.Tests.{every-next, every-stop, every-end}
 use Rattle.listing.proofs.all_listed.Statement.{statement}
