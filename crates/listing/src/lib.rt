@@ -121,7 +121,7 @@ pub fn decompose_listed(
     Answer::Done
 }
 
-// Marks each number of a list. A mark stands for each byte there is, so that no list and no covering reaches past the marks.
+// Marks each number of a list. There is a mark for every byte, so that no list and no covering reaches past the marks.
 fn marks_of(list: &[u8]) -> [bool; 256]
     ensures { λ r. ⌜ Marked (now (list .entry)) r ⌝ }
 {
