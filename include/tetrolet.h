@@ -125,8 +125,8 @@ uint32_t tetrolet_restore(size_t height, size_t width, size_t levels, const int6
 
 /*
  * Restores an image from a plane and the coverings of a list. Where each of the B coverings stands in the list it gives what tetrolet_restore gives;
- * where one is missing the answer is 18, whatever the plane holds. What tetrolet_decompose_listed left is never refused with the list that it was lent,
- * be the plane uncut or cut since.
+ * where one is missing the answer is 18, whatever the plane holds. What tetrolet_decompose_listed left is never refused with the list that it was lent
+ * and slices of their lengths, be the plane uncut or cut since by tetrolet_keep or tetrolet_threshold.
  *   list       a list of 1 to 117 covering numbers, strictly rising, read; it may hold numbers that no block uses; a wrong length of it is 14, not 3
  *   plane, coverings, numerators, samples, scratch    as for tetrolet_restore
  * Refusals: 1, 2, 3, 14, 5, 18, 6.
