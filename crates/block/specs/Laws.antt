@@ -23,6 +23,8 @@ pub record Wins (earlier : List ℕ) (v : ℕ → ℤ) (c n : ℕ) : Type 0 wher
 pub record BlockLaws : Type 0 where
   -- the inverse of the results is four times the values
   pub restored : (n : ℕ) → Number n → (v : ℕ → ℤ) (a : ℕ) → a < 16 → inverse (wordOf n) (forward (wordOf n) v) a ≡ pos 4 *ℤ v a
+  -- and the results of the inverse are four times the results
+  pub returned : (n : ℕ) → Number n → (t : ℕ → ℕ → ℤ) (b s : ℕ) → b < 4 → s < 4 → forward (wordOf n) (inverse (wordOf n) t) b s ≡ pos 4 *ℤ t b s
   -- the squares count four times, both ways
   pub forwardSquares : (n : ℕ) → Number n → (v : ℕ → ℤ) → Σℕ 4 (λ s. Σℕ 4 (λ b. sq (forward (wordOf n) v b s))) ≡ 4 * Σℕ 16 (λ a. sq (v a))
   pub inverseSquares : (n : ℕ) → Number n → (t : ℕ → ℕ → ℤ) → Σℕ 16 (λ a. sq (inverse (wordOf n) t a)) ≡ 4 * Σℕ 4 (λ s. Σℕ 4 (λ b. sq (t b s)))

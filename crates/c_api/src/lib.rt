@@ -13,6 +13,7 @@ ghost use Rattle.listing.specs.Entries.{DecomposedListed, RestoredListed};
 ghost use Rattle.strips.specs.Strip.{stripOf};
 ghost use Rattle.joining.specs.Entries.{Joined};
 ghost use Rattle.viewer.specs.Window.{viewOf, Viewed};
+ghost use Rattle.smoothing.specs.Entry.{Smoothed};
 ghost use Rattle.generator.specs.Generator.{Generated};
 use refusals::Counted;
 use sheet::Reading;
@@ -207,6 +208,32 @@ pub extern "C" fn tetrolet_window(
         window_height,
         window_width,
         samples,
+    ))
+}
+
+// One smoothing step of a kept plane.
+#[no_mangle]
+pub extern "C" fn tetrolet_smooth(
+    height: usize,
+    width: usize,
+    levels: usize,
+    plane: &[i64],
+    coverings: &[u8],
+    step: u64,
+    result: &mut [i64],
+    scratch: &mut [i64],
+) -> u32
+    ensures { λ n. ⌜ Smoothed (stripOf height width levels (now (plane .entry)) (now (coverings .entry))) step (now (result .entry)) (now (result .exit)) (now (scratch .entry)) (now (scratch .exit)) n ⌝ }
+{
+    refusals::code(smoothing::smooth(
+        height,
+        width,
+        levels,
+        plane,
+        coverings,
+        step,
+        result,
+        scratch,
     ))
 }
 

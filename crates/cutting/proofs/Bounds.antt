@@ -16,7 +16,8 @@ use Rattle.pyramid.specs.Slices.{imageOf}
 use Rattle.places.proofs.Sides.{Passed, passed}
 use Rattle.text.specs.Text.{rowsText, rowText}
 use Rattle.text.proofs.Stamp.{four-row, five-row, four-bound, five-length, value-length, width-le}
-use Rattle.sheet_text.specs.Rows.{isZero, entryRow, withRow, blockRow, blockRows, entryRows}
+use Rattle.integers.specs.Zero.{isZero}
+use Rattle.sheet_text.specs.Rows.{entryRow, withRow, blockRow, blockRows, entryRows}
 use Rattle.sheet_text.specs.Sheet.{sheetText}
 use Rattle.sheet_text.proofs.Layouts.{count, blocks-count}
 use Rattle.sheet_render.proofs.Pieces.{sheet-length}

@@ -12,7 +12,8 @@ use lib.IntN.{ℤ, pos}
 use lib.ListN.{length, getD, set}
 use Rattle.refusals.specs.Refusal.{refuseIf}
 use Rattle.integers.specs.Lists.{every}
-use Rattle.integers.proofs.Half.{half, half-store}
+use Rattle.integers.specs.Lists.{half}
+use Rattle.integers.proofs.Half.{half-store}
 use Rattle.integers.proofs.Index.{index-bound}
 use Rattle.integers.proofs.Tests.{is-true}
 use Rattle.pyramid.specs.Sides.{isSides, isDepth, isPlane, isCoverings}

@@ -7,17 +7,15 @@
 --     half-end       after all the turns it is `new`
 -- Assumes nothing.
 use mathlib.Core.Path.{_≡_, refl, sym, ap, _∙_, subst}
-use mathlib.Core.List.{List, [], _∷_, _++_, map}
+use mathlib.Core.List.{List, [], _∷_, map}
 use Prim.Native.Nat.{ℕ, zero, suc, _+_, _<_, _≤_}
 use native.Mathlib.Nat.{not-suc-le-zero, le-of-suc-le-suc}
 use native.Mathlib.Numerals.{add-one}
 use native.Mathlib.Omega.{arith}
-use lib.ListN.{length, set, getD, take, drop, List·getD-map, length-map}
+use lib.ListN.{length, set, getD, List·getD-map, length-map}
+use Rattle.integers.specs.Lists.{half}
 
 module _ {A : Type 0} where
-  abbrev pub half : List A → List A → ℕ → List A
-  half new old i = take i new ++ drop i old
-
   half-suc : (new old : List A) (i : ℕ) (d : A) → length new ≡ length old → i < length old → set (half new old i) i (getD new i d) ≡ half new old (suc i)
   half-suc new [] i d e l = absurd (not-suc-le-zero l)
   half-suc [] (y ∷ old) i d e l = absurd (omega arith)

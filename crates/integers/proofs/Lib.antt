@@ -10,3 +10,4 @@ pub mod Signs
 pub mod Sums
 pub mod Tabulate
 pub mod Tests
+pub mod Zero

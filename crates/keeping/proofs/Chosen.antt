@@ -7,11 +7,12 @@ use native.Mathlib.Nat.{mul-le-mul-right, one-le-pow}
 use native.Mathlib.Decide.{decLt}
 use native.Mathlib.Omega.{arith}
 use lib.Dec.{eqb, ltb, leb}
-use lib.IntN.{ℤ, pos, negsuc, natAbs}
+use lib.IntN.{ℤ, pos, natAbs}
 use lib.ListN.{length, getD}
 use lib.Pow.{pow-add}
 use borrow.Author.Tests.{eq-eqb, ne-eqb, le-leb, lt-leb}
 use Rattle.integers.proofs.Tests.{true-at, false-at}
+use Rattle.integers.proofs.Zero.{abs-zero}
 use Rattle.pyramid.specs.Plane.{Image, Fits}
 use Rattle.pyramid.specs.Places.{tetroletPlaces, at}
 use Rattle.pyramid.specs.Slices.{imageOf}
@@ -72,10 +73,6 @@ cut-is R h w f p T t left e g =
     q : List ℕ
     q = ranks R h w P
 
-    zero-abs : (z : ℤ) → natAbs z ≡ 0 → z ≡ pos 0
-    zero-abs (pos m) e = ap pos e
-    zero-abs (negsuc m) e = absurd (omega arith)
-
     same : (z : ℤ) (a b : Bool) → (0 < natAbs z → a ≡ b) → cond a z (pos 0) ≡ cond b z (pos 0)
     same z a b k = go (decLt 0 (natAbs z))
       where
@@ -87,7 +84,7 @@ cut-is R h w f p T t left e g =
 
         go : Dec (0 < natAbs z) → cond a z (pos 0) ≡ cond b z (pos 0)
         go (yes l) = ap (λ (b : Bool). cond b z (pos 0)) (k l)
-        go (no l) = both a b (zero-abs z (omega arith))
+        go (no l) = both a b (abs-zero z (omega arith))
 
     one : (m : ℕ) → m < length (tetroletPlaces R h w)
         → cond (sifts (T * 2 ^ R) (w * h) q m) (at P (getD (tetroletPlaces R h w) m none)) (pos 0) ≡ cond (passes T P (getD (tetroletPlaces R h w) m none)) (at P (getD (tetroletPlaces R h w) m none)) (pos 0)

@@ -14,7 +14,7 @@ use Rattle.integers.proofs.Tabulate.{length-tabulate}
 use Rattle.pyramid.specs.Places.{Place, planePlaces, tetroletPlaces, blocksFrom, blockAt, at, sumOver}
 use Rattle.pyramid.specs.Slices.{pictureOf, planeWith, coversOf, coversBy}
 use Rattle.pyramid.specs.Laws.{PyramidLaws, Places, PlaceLaws, ChosenLaws, Laws}
-use Rattle.pyramid.proofs.Pyramid.{numerators-sub, numerators-analyse}
+use Rattle.pyramid.proofs.Pyramid.{numerators-sub, numerators-scale, numerators-analyse}
 use Rattle.pyramid.proofs.Energy.{lowTotal, energy}
 use Rattle.pyramid.proofs.Ranges.{in-range}
 use Rattle.pyramid.proofs.Sides.{size-laws}
@@ -23,7 +23,8 @@ use Rattle.pyramid.proofs.Choose.{covers-length, covers-numbers, covers
 use Rattle.pyramid.proofs.Only.{covers-only, on-only}
 use Rattle.pyramid.proofs.Places.{All, places-inside}
 use Rattle.pyramid.proofs.Order.{numberIn, plane-inside, number-of, plane-count, entry-at}
-use Rattle.pyramid.proofs.Standing.{level, analyse-sub}
+use Rattle.pyramid.proofs.Standing.{level, analyse-sub, analyse-scale}
+use Rattle.pyramid.proofs.Returned.{analyse-numerators}
 use Rattle.pyramid.proofs.Whole.{places-banded, ranged}
 use Rattle.pyramid.proofs.Number.{numberAt, number-place, places-count, entry-cases}
 
@@ -34,8 +35,11 @@ low-is (suc R) h w f = low-is R (h / 2) (w / 2) f
 pub pyramid : (R h w : ℕ) → Fits R h w → (cs : ℕ → ℕ) → Numbers (allBlocks R h w) cs → PyramidLaws R h w cs
 pyramid R h w f cs ns = record {
   restored = numerators-analyse R h w f cs ns;
+  decomposed = analyse-numerators R h w f cs ns;
   analysed = analyse-sub R h w cs;
   additive = numerators-sub R h w cs;
+  analysedTimes = analyse-scale R h w cs;
+  times = numerators-scale R h w cs;
   squares = λ P.
       sym (one-mul (total h w (λ y x. sq (numerators R h w cs P y x))))
       ∙ energy 0 R R h w (omega arith) f cs ns P

@@ -10,10 +10,10 @@ use Rattle.integers.proofs.Bound.{abs-mul}
 use Rattle.integers.proofs.Tabulate.{getD-tabulate}
 use Rattle.pyramid.specs.Plane.{Image, Fits, Numbers, blocks, allBlocks, halved, band, withLow, blockOf, after, mergeOf, numerators}
 use Rattle.pyramid.specs.Places.{Place, placesFrom, at}
-use Rattle.pyramid.specs.Ranges.{InRange}
+use Rattle.pyramid.specs.Ranges.{Limited}
 use Rattle.pyramid.specs.Behind.{valuesBehind, quadOf, blockList}
 use Rattle.pyramid.proofs.Places.{All, of-places}
-use Rattle.pyramid.proofs.Bounds.{bounded, low-size, tetrolet-size}
+use Rattle.pyramid.proofs.Bounds.{bounded}
 
 -- ---- sides
 pub halved-suc : (d h : ℕ) → halved (suc d) h ≡ halved d h / 2
@@ -76,8 +76,8 @@ values-next d t h w cs P =
 pub four-most : (R : ℕ) → R ≤ 8 → 4 ^ R ≤ 65536
 four-most R l = pow-le-pow-right (omega arith) l
 
-limit : (p t : ℕ) → p ≤ 65536 → t ≤ 8 → 4095 * p * (2 + 3 * t) ≤ 4095 * 65536 * 26
-limit p t k l = mul-le-mul (mul-le-mul (le-refl 4095) k) (most l)
+limit : (c d t : ℕ) → c ≤ d → t ≤ 8 → c * (2 + 3 * t) ≤ d * 26
+limit c d t k l = mul-le-mul k (most l)
   where
     most : t ≤ 8 → 2 + 3 * t ≤ 26
     most l = omega arith
@@ -85,33 +85,40 @@ limit p t k l = mul-le-mul (mul-le-mul (le-refl 4095) k) (most l)
 pub numbers-behind : (d t R h w : ℕ) (cs : ℕ → ℕ) → d + t ≡ R → Numbers (allBlocks R h w) cs → Numbers (allBlocks t (halved d h) (halved d w)) (after (allBlocks d h w) cs)
 numbers-behind d t R h w cs e ns k l = ns (allBlocks d h w + k) (omega (arith, blocks-behind d t R h w e))
 
-module _ (R h w : ℕ) (cs : ℕ → ℕ) (P : Image) (most : R ≤ 8) (fits : Fits R h w) (numbers : Numbers (allBlocks R h w) cs) (range : InRange R h w P) where
+-- of a plane of limited size
+module _ (R h w : ℕ) {c : ℕ} (cs : ℕ → ℕ) (P : Image) (most : R ≤ 8) (fits : Fits R h w) (numbers : Numbers (allBlocks R h w) cs) (size : Limited R h w c P) where
   abbrev Counted : Place → Type 0
-  Counted q = 2 * (4 ^ (R - q .level) * natAbs (at P q)) ≤ 4095 * 4 ^ R
+  Counted q = 2 * (4 ^ (R - q .level) * natAbs (at P q)) ≤ c
 
   -- what the levels behind give back
-  pub value-small : (d t : ℕ) → d + t ≡ R → (y x : ℕ) → y < halved d h → x < halved d w → natAbs (valuesBehind d t h w cs P y x) ≤ 2 ^ 33
-  value-small d t e y x k l = omega (arith, size, limit (4 ^ R) t (four-most R most) (omega arith))
-    where
-      size : 2 * natAbs (valuesBehind d t h w cs P y x) ≤ 4095 * 4 ^ R * (2 + 3 * t)
-      size =
-          bounded d t R (halved d h) (halved d w) (4095 * 4 ^ R) e (fits-behind d t R h w e fits) (after (allBlocks d h w) cs) (numbers-behind d t R h w cs e numbers) P
-          (λ y x k l. low-size R h w P range y x (omega (arith, halved-all d t R h e)) (omega (arith, halved-all d t R w e)))
-          (places-behind Counted d t R 0 d h w e (omega arith) (tetrolet-size R h w P range)) y x k l
+  value-size : (d t : ℕ) → d + t ≡ R → (y x : ℕ) → y < halved d h → x < halved d w → 2 * natAbs (valuesBehind d t h w cs P y x) ≤ c * (2 + 3 * t)
+  value-size d t e =
+      bounded d t R (halved d h) (halved d w) c e (fits-behind d t R h w e fits) (after (allBlocks d h w) cs) (numbers-behind d t R h w cs e numbers) P
+      (λ y x k l. size .low y x (omega (arith, halved-all d t R h e)) (omega (arith, halved-all d t R w e)))
+      (places-behind Counted d t R 0 d h w e (omega arith) (size .tetrolet))
+
+  pub value-room : c ≤ 2 ^ 33 → (d t : ℕ) → d + t ≡ R → (y x : ℕ) → y < halved d h → x < halved d w → natAbs (valuesBehind d t h w cs P y x) ≤ 2 ^ 40
+  value-room q d t e y x k l = omega (arith, value-size d t e y x k l, limit c (2 ^ 33) t q (omega arith))
 
   -- a tetrolet coefficient as it is counted
-  pub counted-small : (d t : ℕ) → d + suc t ≡ R → (b y x : ℕ) → b < 3 → y < halved d h / 2 → x < halved d w / 2
+  pub counted-room : c ≤ 2 ^ 33 → (d t : ℕ) → d + suc t ≡ R → (b y x : ℕ) → b < 3 → y < halved d h / 2 → x < halved d w / 2
       → natAbs (pos (4 ^ t) *ℤ band (halved d h) (halved d w) P (suc b) y x) ≤ 2 ^ 40
-  counted-small d t e b y x c k l =
-      subst⁻¹ (λ (n : ℕ). n ≤ 2 ^ 40) (abs-mul (pos (4 ^ t)) (band (halved d h) (halved d w) P (suc b) y x)) (omega (arith, size, four-most R most))
+  counted-room q d t e b y x i k l =
+      subst⁻¹ (λ (n : ℕ). n ≤ 2 ^ 40) (abs-mul (pos (4 ^ t)) (band (halved d h) (halved d w) P (suc b) y x)) (omega (arith, one))
     where
       left : R - suc d ≡ t
       left = omega arith
 
-      size : 2 * (4 ^ t * natAbs (band (halved d h) (halved d w) P (suc b) y x)) ≤ 4095 * 4 ^ R
-      size =
-          subst (λ (n : ℕ). 2 * (4 ^ n * natAbs (band (halved d h) (halved d w) P (suc b) y x)) ≤ 4095 * 4 ^ R) left
-          (of-places Counted d t (halved d h) (halved d w) (places-behind Counted d (suc t) R 0 d h w e (omega arith) (tetrolet-size R h w P range)) .0 b y x c k l)
+      one : 2 * (4 ^ t * natAbs (band (halved d h) (halved d w) P (suc b) y x)) ≤ c
+      one =
+          subst (λ (n : ℕ). 2 * (4 ^ n * natAbs (band (halved d h) (halved d w) P (suc b) y x)) ≤ c) left
+          (of-places Counted d t (halved d h) (halved d w) (places-behind Counted d (suc t) R 0 d h w e (omega arith) (size .tetrolet)) .0 b y x i k l)
+
+-- of a plane in range
+pub value-small : (R h w : ℕ) (cs : ℕ → ℕ) (P : Image) → R ≤ 8 → Fits R h w → Numbers (allBlocks R h w) cs → Limited R h w (4095 * 4 ^ R) P
+    → (d t : ℕ) → d + t ≡ R → (y x : ℕ) → y < halved d h → x < halved d w → natAbs (valuesBehind d t h w cs P y x) ≤ 2 ^ 33
+value-small R h w cs P most f ns z d t e y x k l =
+    omega (arith, value-size R h w cs P most f ns z d t e y x k l, limit (4095 * 4 ^ R) (4095 * 65536) t (mul-le-mul (le-refl 4095) (four-most R most)) (omega arith))
 
 -- ---- entries of a quad and of a block
 pub quad-at : (A : Image) (i j s : ℕ) → s < 4 → getD (quadOf A i j) s (pos 0) ≡ A (i * 2 + s % 2) (j * 2 + s / 2)

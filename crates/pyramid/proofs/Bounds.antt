@@ -17,7 +17,7 @@ use Rattle.block.specs.Block.{labelsOf, inverse}
 use Rattle.pyramid.specs.Plane.{Image, Fits, blocks, after, wordAt, band, withLow, mergeOf, analyse, numerators, listed, Numbers, allBlocks, halved}
 use Rattle.pyramid.specs.Places.{tetroletPlaces, placesFrom, at}
 use Rattle.pyramid.specs.Slices.{imageOf, pictureOf, planeWith, numeratorsOf, nearest, sampleOf, samplesOf}
-use Rattle.pyramid.specs.Ranges.{InRange}
+use Rattle.pyramid.specs.Ranges.{InRange, Limited}
 use Rattle.block.proofs.Words.{Good, labelIn}
 use Rattle.pyramid.proofs.Levels.{good-at}
 use Rattle.pyramid.proofs.Pyramid.{first-numbers, other-numbers, numerators-cong, numerators-analyse}
@@ -83,10 +83,10 @@ bounded d (suc R) T h w c e f cs ns P low tet y x k l =
 
 -- the low-pass of a plane in range, and its tetrolet coefficients as they are counted
 module _ (R h w : ℕ) (P : Image) (r : InRange R h w P) where
-  pub low-size : (y x : ℕ) → y < halved R h → x < halved R w → natAbs (P y x) ≤ 4095 * 4 ^ R
+  low-size : (y x : ℕ) → y < halved R h → x < halved R w → natAbs (P y x) ≤ 4095 * 4 ^ R
   low-size y x k l = let q = r .low y x k l in subst⁻¹ (λ (z : ℤ). natAbs z ≤ 4095 * 4 ^ R) (q .1) (q .2)
 
-  pub tetrolet-size : All (λ n p. 2 * (4 ^ (R - p .level) * natAbs (at P p)) ≤ 4095 * 4 ^ R) (tetroletPlaces R h w)
+  tetrolet-size : All (λ n p. 2 * (4 ^ (R - p .level) * natAbs (at P p)) ≤ 4095 * 4 ^ R) (tetroletPlaces R h w)
   tetrolet-size n l = go ((getD (tetroletPlaces R h w) n none) .level) (natAbs (at P (getD (tetroletPlaces R h w) n none))) (places-levels 0 R R h w (omega arith) n l) (r .tetrolet n l)
     where
       go : (v a : ℕ) → (0 < v) × (v ≤ R) → a ≤ 2 * 4 ^ (v - 1) * 4095 → 2 * (4 ^ (R - v) * a) ≤ 4095 * 4 ^ R
@@ -104,8 +104,11 @@ module _ (R h w : ℕ) (P : Image) (r : InRange R h w P) where
           last : (p q : ℕ) → a ≤ 2 * p * 4095 → 2 * (q * a) ≤ 4095 * (4 * p * q)
           last p q h = omega (arith, mul-le-mul-left q h)
 
+  pub limited : Limited R h w (4095 * 4 ^ R) P
+  limited = record { low = low-size; tetrolet = tetrolet-size }
+
 pub bounds : (R h w : ℕ) → Fits R h w → (cs : ℕ → ℕ) → Numbers (allBlocks R h w) cs → (P : Image) → InRange R h w P → (y x : ℕ) → y < h → x < w → 2 * natAbs (numerators R h w cs P y x) ≤ 4095 * 4 ^ R * (2 + 3 * R)
-bounds R h w f cs ns P r = bounded 0 R R h w (4095 * 4 ^ R) (omega arith) f cs ns P (low-size R h w P r) (tetrolet-size R h w P r)
+bounds R h w f cs ns P r = let z = limited R h w P r in bounded 0 R R h w (4095 * 4 ^ R) (omega arith) f cs ns P (z .low) (z .tetrolet)
 
 -- rounding to nearest
 pub rounded : (R : ℕ) (y : ℤ) → let m = 2 * 4 ^ R in let n = nearest R y in

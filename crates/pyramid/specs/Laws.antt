@@ -33,9 +33,14 @@ pub record LevelLaws (R h w : ℕ) (cs : ℕ → ℕ) (A : Image) : Type 0 where
 pub record PyramidLaws (R h w : ℕ) (cs : ℕ → ℕ) : Type 0 where
   -- the numerators of an uncut plane are 4 ^ R times the picture
   pub restored : (A : Image) (y x : ℕ) → y < h → x < w → numerators R h w cs (analyse R h w cs A) y x ≡ pos (4 ^ R) *ℤ A y x
+  -- and the plane of the numerators of any plane is 4 ^ R times that plane
+  pub decomposed : (P : Image) (y x : ℕ) → y < h → x < w → analyse R h w cs (numerators R h w cs P) y x ≡ pos (4 ^ R) *ℤ P y x
   -- the plane and the numerators are additive
   pub analysed : (A B : Image) → analyse R h w cs (λ y x. A y x -ℤ B y x) ≡ (λ y x. analyse R h w cs A y x -ℤ analyse R h w cs B y x)
   pub additive : (P Q : Image) (y x : ℕ) → numerators R h w cs (λ y x. P y x -ℤ Q y x) y x ≡ numerators R h w cs P y x -ℤ numerators R h w cs Q y x
+  -- and homogeneous
+  pub analysedTimes : (c : ℤ) (A : Image) → analyse R h w cs (λ y x. c *ℤ A y x) ≡ (λ y x. c *ℤ analyse R h w cs A y x)
+  pub times : (c : ℤ) (P : Image) (y x : ℕ) → numerators R h w cs (λ y x. c *ℤ P y x) y x ≡ c *ℤ numerators R h w cs P y x
   -- their squares: 4 ^ R times those of the low-pass, 4 ^ (2R - r) times those of the level-r tetrolet entries
   pub squares : (P : Image) → total h w (λ y x. sq (numerators R h w cs P y x))
       ≡ 4 ^ R * total (halved R h) (halved R w) (λ y x. sq (P y x)) + sumOver (tetroletPlaces R h w) (λ p. 4 ^ (2 * R - p .level) * sq (at P p))

@@ -1,4 +1,4 @@
--- The ranges of a plane's entries, as a test and as a fact. Assumes nothing.
+-- The ranges of a plane's entries, as a test and as a fact; and how large they are as restoring counts them. Assumes nothing.
 use mathlib.Core.Path.{_≡_}
 use mathlib.Core.Bool.{Bool, false, cond}
 use Prim.Native.Nat.{ℕ, _*_, _-_, _^_, _<_, _≤_}
@@ -26,3 +26,8 @@ inRange R h w P = every (λ p. fitsRange R p (at P p)) (planePlaces R h w)
 pub record InRange (R h w : ℕ) (P : Image) : Type 0 where
   pub low : (y x : ℕ) → y < halved R h → x < halved R w → (n : ℕ) × (P y x ≡ pos n) × (n ≤ 4095 * 4 ^ R)
   pub tetrolet : (k : ℕ) → k < length (tetroletPlaces R h w) → let p = getD (tetroletPlaces R h w) k noPlace in natAbs (at P p) ≤ 2 * 4 ^ (p .level - 1) * 4095
+
+-- c limits the low-pass, and twice each tetrolet coefficient as restoring counts it: "W of level r first counts 4^(R-r) times".
+pub record Limited (R h w c : ℕ) (P : Image) : Type 0 where
+  pub low : (y x : ℕ) → y < halved R h → x < halved R w → natAbs (P y x) ≤ c
+  pub tetrolet : (k : ℕ) → k < length (tetroletPlaces R h w) → let p = getD (tetroletPlaces R h w) k noPlace in 2 * (4 ^ (R - p .level) * natAbs (at P p)) ≤ c

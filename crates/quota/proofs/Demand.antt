@@ -14,7 +14,9 @@ use Rattle.integers.proofs.Sums.{Σℕ-cong}
 use Rattle.integers.proofs.Tests.{is-false}
 use Rattle.pyramid.specs.Plane.{Image, Fits, analyse, numerators, Numbers, allBlocks}
 use Rattle.pyramid.specs.Places.{Place, tetroletPlaces, at, sumOver}
-use Rattle.quota.specs.Quota.{rankOf, ranks, stays, kept, isZero, entries}
+use Rattle.integers.specs.Zero.{isZero}
+use Rattle.integers.proofs.Zero.{abs-zero}
+use Rattle.quota.specs.Quota.{rankOf, ranks, stays, kept, entries}
 use Rattle.quota.proofs.Distance.{distance}
 use Rattle.pyramid.proofs.Pyramid.{numerators-sub, numerators-analyse}
 use Rattle.pyramid.proofs.Places.{none, sum-numbers, sum-cong, sum-mono}
@@ -62,13 +64,9 @@ rank-square R P p = move (natAbs (at P p)) (2 ^ (R - p .level)) ∙ ap (λ (x : 
 sub-zero : (z y : ℤ) → only (isZero z) (sq y) ≤ sq (z -ℤ y)
 sub-zero z y = go (isZero z) (λ t. eqb→eq (natAbs z) 0 t)
   where
-    is-zero : (z : ℤ) → natAbs z ≡ 0 → z ≡ pos 0
-    is-zero (pos n) e = ap pos e
-    is-zero (negsuc n) e = absurd (omega arith)
-
     go : (b : Bool) → (T b → natAbs z ≡ 0) → only b (sq y) ≤ sq (z -ℤ y)
     go false e = omega arith
-    go true e = rw (is-zero z (e tt)) (subst⁻¹ (λ (n : ℕ). sq y ≤ n) (ap sq (+ℤ-idl (negℤ y)) ∙ (λ i. abs-neg y i * abs-neg y i)) (le-refl (sq y)))
+    go true e = rw (abs-zero z (e tt)) (subst⁻¹ (λ (n : ℕ). sq y ≤ n) (ap sq (+ℤ-idl (negℤ y)) ∙ (λ i. abs-neg y i * abs-neg y i)) (le-refl (sq y)))
 
 only-mul : (b : Bool) (c x : ℕ) → c * only b x ≡ only b (c * x)
 only-mul true c x = refl

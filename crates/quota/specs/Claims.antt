@@ -13,7 +13,8 @@ use Rattle.pyramid.specs.Least.{Least}
 use Rattle.pyramid.specs.Near.{Near, NearEvery}
 use Rattle.pyramid.specs.Places.{tetroletPlaces, at, sumOver}
 use Rattle.pyramid.specs.Slices.{imageOf, pictureOf, numeratorsOf}
-use Rattle.quota.specs.Quota.{isZero, entriesOf}
+use Rattle.integers.specs.Zero.{isZero}
+use Rattle.quota.specs.Quota.{entriesOf}
 
 -- A plane's distance: the sum, over all samples of the picture s, of the squared difference between its numerator there and 4 ^ R times the sample.
 abbrev pub distanceOf : ℕ → ℕ → ℕ → List ℕ → List ℕ → List ℤ → ℕ

@@ -6,6 +6,7 @@ use lib.Dec.{eqb, ltb, leb}
 use lib.ListN.{length, getD}
 use lib.IntN.{ℤ, pos, natAbs}
 use Rattle.integers.specs.Sum.{Σℕ}
+use Rattle.integers.specs.Zero.{isZero}
 use Rattle.pyramid.specs.Plane.{Image, band, layout, withLow}
 use Rattle.pyramid.specs.Slices.{imageOf, sliceOf}
 use Rattle.pyramid.specs.Places.{Place, noPlace, tetroletPlaces, at, sumOver}
@@ -45,9 +46,6 @@ passes T P p = leb (T * 2 ^ p .level) (natAbs (at P p))
 
 abbrev pub cut : ℕ → ℕ → ℕ → ℕ → Image → Image
 cut R h w T P = select R h w (λ n. passes T P (getD (tetroletPlaces R h w) n noPlace)) P
-
-abbrev pub isZero : ℤ → Bool
-isZero z = eqb (natAbs z) 0
 
 -- "the number of tetrolet entries left that are not zero".
 abbrev pub entries : ℕ → ℕ → ℕ → Image → ℕ

@@ -23,6 +23,7 @@ pub enum Refusal {
     JoinedWidth, // 16, joined width
     Window, // 17, window
     Unlisted, // 18, unlisted
+    Step, // 19, step
 }
 
 // The answer of an entry that gives nothing but what it leaves in the slices.
@@ -60,6 +61,7 @@ pub fn number(r: Refusal) -> u8
         Refusal::JoinedWidth => 16,
         Refusal::Window => 17,
         Refusal::Unlisted => 18,
+        Refusal::Step => 19,
     }
 }
 

@@ -16,7 +16,8 @@ use Rattle.pyramid.specs.Plane.{Image}
 use Rattle.pyramid.specs.Places.{Place, BlockPlace, at}
 use Rattle.pyramid.specs.Ranges.{fitsRange}
 use Rattle.places.specs.declared.walk.Walk.{Walk}
-use Rattle.sheet_text.specs.Rows.{isZero, entryRow, withRow, blockRows, entryRows}
+use Rattle.integers.specs.Zero.{isZero}
+use Rattle.sheet_text.specs.Rows.{entryRow, withRow, blockRows, entryRows}
 use Rattle.sheet_text.specs.Sheet.{blocksText, entriesText, headPart, blockPart, entryPart, sheetText}
 use Rattle.sheet_text.proofs.Laws.{sheet-parts}
 use Rattle.places.specs.Walk.{entriesLeft, blocksLeft, entryOf, blockOf}

@@ -5,7 +5,7 @@ use Prim.Native.Nat.{ℕ}
 use lib.IntN.{ℤ}
 use Rattle.text.specs.Write.{fiveText}
 use Rattle.places.specs.declared.walk.Walk.{Walk}
-use Rattle.sheet_text.specs.Rows.{isZero}
+use Rattle.integers.specs.Zero.{isZero}
 
 -- The line of the present entry of a walk, where its value is not zero.
 abbrev pub lineOf : Walk → ℤ → List ℕ

@@ -16,7 +16,8 @@ use Rattle.text.specs.Lines.{cellAt}
 use Rattle.pyramid.specs.Plane.{Image}
 use Rattle.pyramid.specs.Places.{Place, BlockPlace, at}
 use Rattle.pyramid.specs.Ranges.{fitsRange}
-use Rattle.sheet_text.specs.Rows.{isZero, isPlace, before, valuesOf, coversOf, isBlock}
+use Rattle.integers.specs.Zero.{isZero}
+use Rattle.sheet_text.specs.Rows.{isPlace, before, valuesOf, coversOf, isBlock}
 use Rattle.sheet_text.specs.Sheet.{isSome, listIn}
 use Rattle.sheet_scan.specs.Scan.{valueHere, linesPast, zeroHere, fitAlong, coversAlong}
 

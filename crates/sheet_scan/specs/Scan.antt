@@ -8,7 +8,8 @@ use Rattle.text.specs.Lines.{cellAt}
 use Rattle.pyramid.specs.Places.{Place}
 use Rattle.pyramid.specs.Ranges.{fitsRange}
 use Rattle.places.specs.Walk.{indexIn}
-use Rattle.sheet_text.specs.Rows.{isZero, isPlace}
+use Rattle.integers.specs.Zero.{isZero}
+use Rattle.sheet_text.specs.Rows.{isPlace}
 
 -- the value at a place, whose line is the next one or is not there
 abbrev pub valueHere : Place → List (List ℤ) → ℤ

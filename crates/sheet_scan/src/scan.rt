@@ -6,20 +6,10 @@ ghost use lib.ListN.{length};
 ghost use Rattle.pyramid.specs.Places.{planePlaces};
 ghost use Rattle.pyramid.specs.Sides.{isSides, isDepth};
 ghost use Rattle.text.specs.Lines.{five, linesAt, fivesAt};
-ghost use Rattle.sheet_text.specs.Rows.{isZero, valuesOf};
+ghost use Rattle.sheet_text.specs.Rows.{valuesOf};
 ghost use Rattle.sheet_text.specs.Sheet.{isSome};
 ghost use Rattle.sheet_scan.specs.Scan.{storedAlong, fitAlong};
 use text::lines::LineOfFive;
-
-// Whether a value is 0.
-fn is_zero(v: i64) -> bool
-    ensures { λ r. ⌜ r ≡ isZero v ⌝ }
-{
-    if v == 0 {
-        return true;
-    }
-    false
-}
 
 // Whether two tests hold.
 pub fn both(a: bool, b: bool) -> bool
@@ -68,7 +58,7 @@ pub fn look_along(s: &[u8], at: usize, height: u32, width: u32, levels: u32) -> 
             };
         }
         let v = f.value;
-        let zero = is_zero(v);
+        let zero = integers::is_zero(v);
         rising = both(rising, !zero);
         let here = crate::front::walk_to(k, f);
         let fits = places::checks::fits_range(levels, here, v);

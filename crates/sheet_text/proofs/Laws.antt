@@ -25,7 +25,8 @@ use Rattle.pyramid.specs.Slices.{imageOf}
 use Rattle.pyramid.specs.Ranges.{isLow, fitsRange, inRange}
 use Rattle.sheet_text.specs.Forms.{sheetForm}
 use Rattle.places.specs.Walk.{indexIn}
-use Rattle.sheet_text.specs.Rows.{isZero, entryRow, blockRows, entryRows, coversOf, valuesOf, spread}
+use Rattle.integers.specs.Zero.{isZero}
+use Rattle.sheet_text.specs.Rows.{entryRow, blockRows, entryRows, coversOf, valuesOf, spread}
 use Rattle.sheet_text.specs.Sheet.{sheetRows, headOf, headPart, blockPart, entryPart, sheetText, writeRefusal, isSome, listIn, rowsOf, heightIn, widthIn, levelsIn, saidCoverings, saidValues, coveringsIn, planeIn, judge, readRefusal}
 use Rattle.sheet_text.specs.Claims.{GivesBack, GivesAgain, SheetLaws}
 use Rattle.sheet_text.proofs.Each.{Each}

@@ -14,7 +14,9 @@ use Rattle.text.specs.Text.{plain, FitsValue, FitsRow, FitsRows}
 use Rattle.text.specs.Lines.{three, four, five, cellAt}
 use Rattle.pyramid.specs.Plane.{Image}
 use Rattle.pyramid.specs.Places.{Place, BlockPlace, at}
-use Rattle.sheet_text.specs.Rows.{isZero, blockRow, entryRow, withRow, blockRows, entryRows, isBlock, isPlace, before, coversOf, valuesOf}
+use Rattle.integers.specs.Zero.{isZero}
+use Rattle.integers.proofs.Zero.{zero-is}
+use Rattle.sheet_text.specs.Rows.{blockRow, entryRow, withRow, blockRows, entryRows, isBlock, isPlace, before, coversOf, valuesOf}
 use Rattle.sheet_text.proofs.Each.{Each, Pairs}
 
 pub same : (n : ℕ) → eqb n n ≡ true
@@ -128,10 +130,6 @@ values-skip : (p : Place) (ps : List Place) (rs : List (List ℤ)) → NotFirst 
 unfolding NotFirst valuesOf
 values-skip p ps [] h = refl
 values-skip p ps (r ∷ rs) h = rw h
-
-pub zero-is : (v : ℤ) → isZero v ≡ true → v ≡ pos 0
-zero-is (pos n) e = ap pos (eqb-true n 0 e)
-zero-is (negsuc n) e = absurd (omega (arith, eqb-true (suc n) 0 e))
 
 pub values-back : (P : Image) (ps : List Place) → Pairs OtherKey ps → valuesOf ps (entryRows P ps) ≡ some (map (at P) ps)
 unfolding valuesOf entryRows Pairs

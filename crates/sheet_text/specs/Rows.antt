@@ -4,8 +4,9 @@ use mathlib.Core.List.{List, [], _∷_}
 use mathlib.Core.Option.{Option, none, some}
 use Prim.Native.Nat.{ℕ, _+_, _*_}
 use lib.Dec.{eqb}
-use lib.IntN.{ℤ, pos, natAbs}
+use lib.IntN.{ℤ, pos}
 use lib.ListN.{getD, set}
+use Rattle.integers.specs.Zero.{isZero}
 use Rattle.text.specs.Lines.{cellAt}
 use Rattle.pyramid.specs.Plane.{Image}
 use Rattle.pyramid.specs.Places.{Place, BlockPlace, at}
@@ -23,9 +24,6 @@ blockRows (b ∷ bs) [] = []
 blockRows (b ∷ bs) (c ∷ cs) = blockRow b c ∷ blockRows bs cs
 
 -- Document 01: "`level band row col value` and a line for each plane entry not zero, in plane order".
-abbrev pub isZero : ℤ → Bool
-isZero v = eqb (natAbs v) 0
-
 abbrev pub entryRow : Place → ℤ → List ℤ
 entryRow p v = pos (p .level) ∷ pos (p .band) ∷ pos (p .row) ∷ pos (p .col) ∷ v ∷ []
 

@@ -28,7 +28,8 @@ use Rattle.pyramid.proofs.Whole.{ranged}
 use Rattle.places.specs.declared.walk.Walk.{Walk}
 use Rattle.places.specs.Walk.{entriesLeft, entryOf, indexIn}
 use Rattle.places.proofs.Sides.{passed}
-use Rattle.quota.specs.Quota.{ranks, select, isZero, entriesOf}
+use Rattle.integers.specs.Zero.{isZero}
+use Rattle.quota.specs.Quota.{ranks, select, entriesOf}
 use Rattle.quota.proofs.Select.{select-places, select-low}
 use Rattle.quota.proofs.Flat.{entries-cong}
 use Rattle.quota.proofs.Demand.{q-at}

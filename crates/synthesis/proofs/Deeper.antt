@@ -2,7 +2,7 @@
 use mathlib.Core.Path.{_≡_, refl, sym, ap, _∙_, subst, subst⁻¹}
 use mathlib.Core.List.{List}
 use Prim.Native.Nat.{ℕ, zero, suc, _+_, _*_, _-_, _/_, _%_, _^_, _<_, _≤_}
-use native.Mathlib.Nat.{mul-le-mul-right, mod-lt, div-lt-iff-lt-mul, div-add-mod'}
+use native.Mathlib.Nat.{le-refl, le-trans, mul-le-mul-right, mod-lt, div-lt-iff-lt-mul, div-add-mod'}
 use native.Mathlib.Omega.{arith}
 use lib.IntN.{ℤ, pos, natAbs, _*ℤ_}
 use lib.ListN.{length, getD}
@@ -11,11 +11,11 @@ use Rattle.slices.specs.Stores.{rectangles}
 use Rattle.slices.proofs.Stores.{rectangles-in, rectangles-out}
 use Rattle.pyramid.specs.Plane.{Image, Fits, Numbers, blocks, allBlocks, halved, top, left, band, withLow, after, listed, mergeOf, numerators}
 use Rattle.pyramid.specs.Slices.{imageOf, numeratorsOf}
-use Rattle.synthesis.specs.Synthesis.{weightedBands, mergedBlock, putColumns, Level, Restorable}
+use Rattle.synthesis.specs.Synthesis.{weightedBands, mergedBlock, putColumns, Level, Mergeable, Restorable}
 use Rattle.pyramid.proofs.Levels.{merge-cong}
 use Rattle.pyramid.proofs.Pyramid.{top-below, left-below}
 use Rattle.pyramid.proofs.Ranges.{halved-le}
-use Rattle.pyramid.proofs.Behind.{halved-suc, halved-shift, fits-behind, blocks-behind, next-blocks, next-after, numbers-behind, values-all, value-small, counted-small, four-most}
+use Rattle.pyramid.proofs.Behind.{halved-suc, halved-shift, fits-behind, blocks-behind, next-blocks, next-after, numbers-behind, values-all, value-room, counted-room, value-small, four-most}
 use Rattle.pyramid.proofs.Slices.{slice-at, slice-length}
 use Rattle.synthesis.proofs.Merging.{merged-at}
 
@@ -31,7 +31,7 @@ pub record Reached (h w d t : ℕ) (cs : List ℕ) (P A : Image) : Type 0 where
   pub inside : (y x : ℕ) → y < halved d h → x < halved d w → A y x ≡ numerators t (halved d h) (halved d w) (after (allBlocks d h w) (listed cs)) P y x
   pub outside : (y x : ℕ) → y < h → x < w → (y < halved d h → x < halved d w → ⊥) → A y x ≡ P y x
 
-module _ {R h w : ℕ} {cs : List ℕ} {plane : List ℤ} (p : Restorable R h w cs plane) where
+module _ {R h w c : ℕ} {cs : List ℕ} {plane : List ℤ} (p : Mergeable R h w c cs plane) where
   -- ---- one level more
   module _ (d t : ℕ) (e : suc d + t ≡ R) (A : Image) (r : Reached h w (suc d) t cs (imageOf h plane) A) where
     level-fits : Fits (suc t) (halved d h) (halved d w)
@@ -75,10 +75,10 @@ module _ {R h w : ℕ} {cs : List ℕ} {plane : List ℤ} (p : Restorable R h w 
     small-bands : (b y x : ℕ) → b < 4 → y < halved d h / 2 → x < halved d w / 2 → natAbs (weightedBands (4 ^ t) (halved d h) (halved d w) A b y x) ≤ 2 ^ 40
     small-bands zero y x c k l =
         subst⁻¹ (λ (z : ℤ). natAbs z ≤ 2 ^ 40) (r .inside y x (omega (arith, halved-suc d h)) (omega (arith, halved-suc d w)))
-        (omega (arith, value-small R h w (listed cs) (imageOf h plane) (p .most) (p .fits) (p .numbers) (p .range) (suc d) t e y x (omega (arith, halved-suc d h)) (omega (arith, halved-suc d w))))
+        (value-room R h w (listed cs) (imageOf h plane) (p .most) (p .fits) (p .numbers) (p .size) (p .limit) (suc d) t e y x (omega (arith, halved-suc d h)) (omega (arith, halved-suc d w)))
     small-bands (suc b) y x c k l =
         subst⁻¹ (λ (z : ℤ). natAbs z ≤ 2 ^ 40) (ap (λ (z : ℤ). pos (4 ^ t) *ℤ z) (band-is b y x c k l))
-        (counted-small R h w (listed cs) (imageOf h plane) (p .most) (p .fits) (p .numbers) (p .range) d t (omega arith) b y x (omega arith) k l)
+        (counted-room R h w (listed cs) (imageOf h plane) (p .most) (p .fits) (p .numbers) (p .size) (p .limit) d t (omega arith) b y x (omega arith) k l)
 
   pub level-at : (d t : ℕ) → suc d + t ≡ R → (image : List ℤ) → length image ≡ w * h → Reached h w (suc d) t cs (imageOf h plane) (imageOf h image) → Level h (halved d h) (halved d w) (4 ^ t) (allBlocks d h w) cs image
   level-at d t e image len r = record {
@@ -116,19 +116,34 @@ module _ {R h w : ℕ} {cs : List ℕ} {plane : List ℤ} (p : Restorable R h w 
               go zero q = absurd (omega arith)
               go (suc m) q = omega arith
 
-  -- the numerators are small
-  pub numerators-small : (k : ℕ) → k < w * h → natAbs (getD (numeratorsOf R h w cs plane) k (pos 0)) ≤ 2 ^ 33
-  numerators-small k l =
-      subst⁻¹ (λ (z : ℤ). natAbs z ≤ 2 ^ 33)
-      (slice-at h w (numerators R h w (listed cs) (imageOf h plane)) k l ∙ ap (λ (A : Image). A (k % h) (k / h)) (sym (values-all R h w (listed cs) (imageOf h plane))))
-      (value-small R h w (listed cs) (imageOf h plane) (p .most) (p .fits) (p .numbers) (p .range) 0 R (omega arith) (k % h) (k / h) (mod-lt k high) ((div-lt-iff-lt-mul high) .1 l))
-    where
-      high : 0 < h
-      high = go h l
-        where
-          go : (m : ℕ) → k < w * m → 0 < m
-          go zero q = absurd (omega arith)
-          go (suc m) q = omega arith
+-- a plane that can be merged, by the largest limit
+pub by-largest : {R h w c : ℕ} {cs : List ℕ} {plane : List ℤ} → Mergeable R h w c cs plane → Mergeable R h w (2 ^ 33) cs plane
+by-largest p = record {
+  fits = p .fits;
+  some = p .some;
+  most = p .most;
+  height = p .height;
+  width = p .width;
+  plane-long = p .plane-long;
+  covered = p .covered;
+  numbers = p .numbers;
+  limit = le-refl (2 ^ 33);
+  size = record { low = λ y x k l. le-trans (p .size .low y x k l) (p .limit); tetrolet = λ k l. le-trans (p .size .tetrolet k l) (p .limit) };
+}
+
+-- the numerators of a plane in range are small
+numerators-small : {R h w : ℕ} {cs : List ℕ} {plane : List ℤ} → Restorable R h w cs plane → (k : ℕ) → k < w * h → natAbs (getD (numeratorsOf R h w cs plane) k (pos 0)) ≤ 2 ^ 33
+numerators-small {R} {h} {w} {cs} {plane} p k l =
+    subst⁻¹ (λ (z : ℤ). natAbs z ≤ 2 ^ 33)
+    (slice-at h w (numerators R h w (listed cs) (imageOf h plane)) k l ∙ ap (λ (A : Image). A (k % h) (k / h)) (sym (values-all R h w (listed cs) (imageOf h plane))))
+    (value-small R h w (listed cs) (imageOf h plane) (p .most) (p .fits) (p .numbers) (p .size) 0 R (omega arith) (k % h) (k / h) (mod-lt k high) ((div-lt-iff-lt-mul high) .1 l))
+  where
+    high : 0 < h
+    high = go h l
+      where
+        go : (m : ℕ) → k < w * m → 0 < m
+        go zero q = absurd (omega arith)
+        go (suc m) q = omega arith
 
 -- the same of a slice that holds them
 module _ {R h w : ℕ} {cs : List ℕ} {plane n : List ℤ} (p : Restorable R h w cs plane) (e : n ≡ numeratorsOf R h w cs plane) where
@@ -147,7 +162,7 @@ pub record Turn (R h w L tall wide first m d : ℕ) : Type 0 where
   pub first-is : first ≡ allBlocks d h w
   pub weight-is : m ≡ 4 ^ (R - L)
 
-module _ {R h w L tall wide first m d : ℕ} {cs : List ℕ} {plane : List ℤ} (p : Restorable R h w cs plane) (u : Turn R h w L tall wide first m d)
+module _ {R h w L tall wide first m d c : ℕ} {cs : List ℕ} {plane : List ℤ} (p : Mergeable R h w c cs plane) (u : Turn R h w L tall wide first m d)
     (image : List ℤ) (len : length image ≡ w * h) (r : Reached h w L (R - L) cs (imageOf h plane) (imageOf h image)) where
   rest : suc d + (R - L) ≡ R
   rest = omega (arith, u .is, u .within)

@@ -11,7 +11,7 @@ use Rattle.slices.specs.Stores.{scatter}
 use Rattle.kernel.specs.Kernel.{at, inverseOf}
 use Rattle.pyramid.specs.Plane.{Image, Fits, Numbers, blocks, allBlocks, band, withLow, after, listed}
 use Rattle.pyramid.specs.Slices.{imageOf}
-use Rattle.pyramid.specs.Ranges.{InRange}
+use Rattle.pyramid.specs.Ranges.{Limited}
 use Rattle.grid.specs.Grid.{cellPlace, bandPlace, startsOf}
 
 -- A result of band 0 once, one of bands 1 to 3 m times: k is 4 * band + label.
@@ -55,8 +55,8 @@ pub record Level (h tall wide m first : ℕ) (cs : List ℕ) (image : List ℤ) 
   pub weight : m ≤ 2 ^ 20
   pub small : (b y x : ℕ) → b < 4 → y < tall / 2 → x < wide / 2 → natAbs (weightedBands m tall wide (imageOf h image) b y x) ≤ 2 ^ 40
 
--- A plane of R levels that can be restored: what the checks 1, 2, 3, 5 and 6 let pass.
-pub record Restorable (R h w : ℕ) (cs : List ℕ) (plane : List ℤ) : Type 0 where
+-- A plane of R levels that can be merged: what the checks 1, 2, 3 and 5 let pass, of a size that c limits.
+pub record Mergeable (R h w c : ℕ) (cs : List ℕ) (plane : List ℤ) : Type 0 where
   pub fits : Fits R h w
   pub some : 1 ≤ R
   pub most : R ≤ 8
@@ -65,4 +65,9 @@ pub record Restorable (R h w : ℕ) (cs : List ℕ) (plane : List ℤ) : Type 0 
   pub plane-long : length plane ≡ w * h
   pub covered : length cs ≡ allBlocks R h w
   pub numbers : Numbers (allBlocks R h w) (listed cs)
-  pub range : InRange R h w (imageOf h plane)
+  pub limit : c ≤ 2 ^ 33
+  pub size : Limited R h w c (imageOf h plane)
+
+-- A plane that can be restored: what the checks 1, 2, 3, 5 and 6 let pass. So large are the entries of a plane in range as they are counted.
+abbrev pub Restorable : ℕ → ℕ → ℕ → List ℕ → List ℤ → Type 0
+Restorable R h w cs plane = Mergeable R h w (4095 * 4 ^ R) cs plane

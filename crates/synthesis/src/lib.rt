@@ -10,7 +10,7 @@ ghost use Rattle.kernel.specs.Kernel.{Within};
 ghost use Rattle.pyramid.specs.Plane.{after, listed};
 ghost use Rattle.pyramid.specs.Slices.{numeratorsOf, samplesOf, nearest, held, sampleOf};
 ghost use Rattle.grid.specs.Grid.{bandPlace};
-ghost use Rattle.synthesis.specs.Synthesis.{counted, weighted, mergedBlock, putBlock, putColumn, putColumns, Level, Restorable};
+ghost use Rattle.synthesis.specs.Synthesis.{counted, weighted, mergedBlock, putBlock, putColumn, putColumns, Level, Mergeable, Restorable};
 
 // A low-pass result once, a tetrolet coefficient `weight` times.
 // Two wrong answers that the contract rules out: a low-pass result `weight` times; and each once.
@@ -173,26 +173,24 @@ fn rise(
     slices::copy_rectangle(scratch, numerators, height, tall, wide);
 }
 
-// The numerators of a plane: each level's bands merged, the last level first. The first level, most of the work, is called for apart, so that `rise` has
-// two callers and stays a function of its own in the machine code. The scratch is left empty.
+// A plane becomes its numerators, in place: each level's bands merged, the last level first. The first level, most of the work, is called for apart, so that
+// `rise` has two callers and stays a function of its own in the machine code. The scratch is left empty.
 // Two wrong answers that the contract rules out: each level's W counted once; and the first level merged first.
-fn synthesise(
+pub fn synthesise(
     cells: &[u8; 1872],
     height: usize,
     width: usize,
     levels: usize,
-    plane: &[i64],
     coverings: &[u8],
     numerators: &mut [i64],
     scratch: &mut [i64],
 )
     requires { ⌜ now cells ≡ cellTable ⌝ }
-    requires { ⌜ Restorable levels height width (now coverings) (now plane) ⌝ }
-    requires { ⌜ (length (now numerators) ≡ width * height) × (length (now scratch) ≡ width * height) ⌝ }
-    ensures { λ _. ⌜ now (numerators .exit) ≡ numeratorsOf levels height width (now (coverings .entry)) (now (plane .entry)) ⌝ }
+    requires { ⌜ Mergeable levels height width (2 ^ 33) (now coverings) (now numerators) ⌝ }
+    requires { ⌜ length (now scratch) ≡ width * height ⌝ }
+    ensures { λ _. ⌜ now (numerators .exit) ≡ numeratorsOf levels height width (now (coverings .entry)) (now (numerators .entry)) ⌝ }
     ensures { λ _. ⌜ now (scratch .exit) ≡ replicate (width * height) (pos 0) ⌝ }
 {
-    slices::copy(plane, numerators);
     let mut left = levels;
     let mut first = coverings.len();
     let mut weight: u64 = 1;
@@ -306,12 +304,12 @@ pub fn restore_all(
     ensures { λ _. ⌜ now (scratch .exit) ≡ replicate (width * height) (pos 0) ⌝ }
 {
     let cells = tables::cells();
+    slices::copy(plane, numerators);
     synthesise(
         &cells,
         height,
         width,
         levels,
-        plane,
         coverings,
         numerators,
         scratch,

@@ -3,7 +3,8 @@ use mathlib.Core.Path.{_≡_, sym, _∙_}
 use Prim.Native.Nat.{_-_, _^_, _≤_}
 use native.Mathlib.Omega.{arith}
 use borrow.Author.Needs.{needs}
-use Rattle.integers.proofs.Half.{half, half-store, half-end}
+use Rattle.integers.specs.Lists.{half}
+use Rattle.integers.proofs.Half.{half-store, half-end}
 use Rattle.tables.specs.Tables.{placementTable}
 use Rattle.kernel.specs.Kernel.{Within}
 use Rattle.costing.specs.Costs.{spreads}

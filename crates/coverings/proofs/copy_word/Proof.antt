@@ -5,7 +5,8 @@ use native.Mathlib.Omega.{arith}
 use mathlib.Core.List.{List}
 use lib.ListN.{length, getD, length-set}
 use borrow.Author.Needs.{needs}
-use Rattle.integers.proofs.Half.{half, half-store, half-end}
+use Rattle.integers.specs.Lists.{half}
+use Rattle.integers.proofs.Half.{half-store, half-end}
 use Rattle.coverings.specs.Words.{table, wordOf}
 use Rattle.coverings.specs.Rule.{Number}
 use Rattle.coverings.proofs.Flat.{place, word-length}

@@ -4,7 +4,8 @@ use Prim.Native.Nat.{_-_, _≤_}
 use native.Mathlib.Omega.{arith}
 use borrow.Author.Needs.{needs}
 use lib.ListN.{length}
-use Rattle.integers.proofs.Half.{half, half-end}
+use Rattle.integers.specs.Lists.{half}
+use Rattle.integers.proofs.Half.{half-end}
 use Rattle.generator.specs.Generator.{samplesFrom}
 use Rattle.generator.specs.Laws.{stateAfter}
 use Rattle.generator.proofs.Samples.{long, at-start, one-more, stored}

@@ -4,7 +4,8 @@ use Prim.Native.Nat.{_+_, _*_, _-_, _<_, _≤_}
 use native.Mathlib.Omega.{arith}
 use lib.IntN.{pos}
 use lib.ListN.{length, getD, length-set}
-use Rattle.integers.proofs.Half.{half, half-store, half-end}
+use Rattle.integers.specs.Lists.{half}
+use Rattle.integers.proofs.Half.{half-store, half-end}
 use Rattle.integers.proofs.Signs.{kept}
 use Rattle.integers.proofs.Tabulate.{length-tabulate, getD-tabulate}
 use Rattle.grid.specs.Grid.{cellPlace, gathered}

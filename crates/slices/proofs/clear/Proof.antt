@@ -5,7 +5,8 @@ use native.Mathlib.Omega.{arith}
 use borrow.Author.Needs.{needs}
 use lib.ListN.{length, replicate, set, getD, length-set, length-replicate, getD-replicate}
 use lib.IntN.{pos}
-use Rattle.integers.proofs.Half.{half, half-more, half-length, half-end}
+use Rattle.integers.specs.Lists.{half}
+use Rattle.integers.proofs.Half.{half-more, half-length, half-end}
 use Rattle.slices.proofs.clear.Statement.{statement}
 use Rattle.slices.proofs.clear.Tie as tie
 

@@ -6,7 +6,8 @@ use native.Mathlib.Omega.{arith}
 use borrow.Author.Needs.{needs}
 use lib.IntN.{pos}
 use lib.ListN.{length, length-map, List·getD-map}
-use Rattle.integers.proofs.Half.{half, half-store, half-end}
+use Rattle.integers.specs.Lists.{half}
+use Rattle.integers.proofs.Half.{half-store, half-end}
 use mir.Syntax.{w64}
 use mir.Facts.{toZ-pos}
 use Rattle.slices.proofs.widen.Statement.{statement}

@@ -5,7 +5,8 @@ use native.Mathlib.Omega.{arith}
 use lib.IntN.{pos, natAbs}
 use lib.ListN.{length, getD, length-set}
 use mir.Syntax.{w64}
-use Rattle.integers.proofs.Half.{half, half-store, half-end}
+use Rattle.integers.specs.Lists.{half}
+use Rattle.integers.proofs.Half.{half-store, half-end}
 use Rattle.integers.proofs.Signs.{kept}
 use Rattle.integers.proofs.Bound.{sfits64, read}
 use Rattle.kernel.specs.Kernel.{at}

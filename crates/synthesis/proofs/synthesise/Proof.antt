@@ -18,66 +18,62 @@ use Rattle.synthesis.proofs.synthesise.Statement.{statement}
 use Rattle.synthesis.proofs.synthesise.Tie as tie
 
 abbrev Inv-loop : tie.InvT-loop
-Inv-loop cells height width levels plane coverings numerators₀ scratch₀ left₀ first₀ weight₀ numerators scratch left first weight =
-    (left ≤ levels) × (first ≡ allBlocks left height width) × (weight ≡ 4 ^ (levels - left)) × (length numerators ≡ width * height) × (length scratch ≡ width * height) × Reached height width left (levels - left) coverings (imageOf height plane) (imageOf height numerators) × (1 ≤ left)
+Inv-loop cells height width levels coverings numerators₀ scratch₀ left₀ first₀ weight₀ numerators scratch left first weight =
+    (left ≤ levels) × (first ≡ allBlocks left height width) × (weight ≡ 4 ^ (levels - left)) × (length numerators ≡ width * height) × (length scratch ≡ width * height) × Reached height width left (levels - left) coverings (imageOf height numerators₀) (imageOf height numerators) × (1 ≤ left)
 
 abbrev μ-loop : tie.MeasureT-loop
-μ-loop cells height width levels plane coverings numerators₀ scratch₀ left₀ first₀ weight₀ numerators scratch left first weight = left
+μ-loop cells height width levels coverings numerators₀ scratch₀ left₀ first₀ weight₀ numerators scratch left first weight = left
 
-turn : (c : tie.In-loop Inv-loop μ-loop) → let l = c .before .loop in let a = c .before .before .before .before .before .before .args in
+turn : (c : tie.In-loop Inv-loop μ-loop) → let l = c .before .loop in let a = c .before .before .before .args in
     Turn (a .levels) (a .height) (a .width) (l .left) (a .height / 2 ^ (l .left - 1)) (a .width / 2 ^ (l .left - 1)) (l .first - a .width / 2 ^ (l .left - 1) / 4 * (a .height / 2 ^ (l .left - 1) / 4)) (l .weight) (l .left - 1)
 turn c =
     let l = c .before .loop in
-    let a = c .before .before .before .before .before .before .args in
+    let a = c .before .before .before .args in
     turn-of (a .levels) (a .height) (a .width) (l .left) (l .first) (l .weight) (omega arith) (l .inv .0) (l .inv .1) (l .inv .2)
 
-takes : (c : tie.In-loop Inv-loop μ-loop) → let l = c .before .loop in let a = c .before .before .before .before .before .before .args in a .width / 2 ^ (l .left - 1) / 4 * (a .height / 2 ^ (l .left - 1) / 4) ≤ l .first
+takes : (c : tie.In-loop Inv-loop μ-loop) → let l = c .before .loop in let a = c .before .before .before .args in a .width / 2 ^ (l .left - 1) / 4 * (a .height / 2 ^ (l .left - 1) / 4) ≤ l .first
 takes c =
     let l = c .before .loop in
-    let a = c .before .before .before .before .before .before .args in
+    let a = c .before .before .before .args in
     turn-takes (a .levels) (a .height) (a .width) (l .left) (l .first) (l .weight) (omega arith) (l .inv .0) (l .inv .1) (l .inv .2)
 
-level : (c : tie.In-loop Inv-loop μ-loop) → let l = c .before .loop in let a = c .before .before .before .before .before .before .args in
+level : (c : tie.In-loop Inv-loop μ-loop) → let l = c .before .loop in let a = c .before .before .before .args in
     Level (a .height) (a .height / 2 ^ (l .left - 1)) (a .width / 2 ^ (l .left - 1)) (l .weight) (l .first - a .width / 2 ^ (l .left - 1) / 4 * (a .height / 2 ^ (l .left - 1) / 4)) (a .coverings .now) (l .numerators)
 level c =
     let l = c .before .loop in
-    turn-level (c .before .before .before .before .before .before .pre .1 .0) (turn c) (l .numerators) (l .inv .3) (l .inv .5)
+    turn-level (c .before .before .before .pre .1 .0) (turn c) (l .numerators) (l .inv .3) (l .inv .5)
 
 -- the values of the level's blocks
 abbrev values : (c : tie.In-loop Inv-loop μ-loop) → ℕ → ℕ → List ℤ
 values c =
     let l = c .before .loop in
-    let a = c .before .before .before .before .before .before .args in
+    let a = c .before .before .before .args in
     mergedBlock (a .height) (a .height / 2 ^ (l .left - 1)) (a .width / 2 ^ (l .left - 1)) (l .weight) (after (l .first - a .width / 2 ^ (l .left - 1) / 4 * (a .height / 2 ^ (l .left - 1) / 4)) (listed (a .coverings .now))) (l .numerators)
 
-scratch-length : (c : tie.In-loop Inv-loop μ-loop) → let l = c .before .loop in let a = c .before .before .before .before .before .before .args in length (putColumns (a .height) (values c) (a .height / 2 ^ (l .left - 1) / 4) (a .width / 2 ^ (l .left - 1) / 4) (l .scratch)) ≡ a .width * a .height
+scratch-length : (c : tie.In-loop Inv-loop μ-loop) → let l = c .before .loop in let a = c .before .before .before .args in length (putColumns (a .height) (values c) (a .height / 2 ^ (l .left - 1) / 4) (a .width / 2 ^ (l .left - 1) / 4) (l .scratch)) ≡ a .width * a .height
 scratch-length c =
     let l = c .before .loop in
-    let a = c .before .before .before .before .before .before .args in
+    let a = c .before .before .before .args in
     columns-length (a .height) (values c) (a .height / 2 ^ (l .left - 1) / 4) (a .width / 2 ^ (l .left - 1) / 4) (l .scratch) (omega (arith, level c .inside)) ∙ l .inv .4
 
 -- the first level, behind the loop
-last : (c : tie.After-loop Inv-loop μ-loop) → let l = c .before .loop in let a = c .before .before .before .before .before .before .args in Turn (a .levels) (a .height) (a .width) (l .left) (a .height) (a .width) 0 (l .weight) 0
+last : (c : tie.After-loop Inv-loop μ-loop) → let l = c .before .loop in let a = c .before .before .before .args in Turn (a .levels) (a .height) (a .width) (l .left) (a .height) (a .width) 0 (l .weight) 0
 last c = let l = c .before .loop in record { is = omega arith; within = l .inv .0; tall-is = refl; wide-is = refl; first-is = refl; weight-is = l .inv .2 }
 
-last-level : (c : tie.After-loop Inv-loop μ-loop) → let l = c .before .loop in let a = c .before .before .before .before .before .before .args in Level (a .height) (a .height) (a .width) (l .weight) 0 (a .coverings .now) (l .numerators)
-last-level c = let l = c .before .loop in turn-level (c .before .before .before .before .before .before .pre .1 .0) (last c) (l .numerators) (l .inv .3) (l .inv .5)
-
-copy-requires : tie.Need-copy-requires Inv-loop μ-loop
-copy-requires c κs = let s = c .before .before in omega (arith, s .pre .1 .0 .plane-long, s .pre .1 .1 .0)
+last-level : (c : tie.After-loop Inv-loop μ-loop) → let l = c .before .loop in let a = c .before .before .before .args in Level (a .height) (a .height) (a .width) (l .weight) 0 (a .coverings .now) (l .numerators)
+last-level c = let l = c .before .loop in turn-level (c .before .before .before .pre .1 .0) (last c) (l .numerators) (l .inv .3) (l .inv .5)
 
 loop-holds : tie.Need-loop-holds Inv-loop μ-loop
 loop-holds c =
-    let s = c .before .before .before .before in
+    let s = c .before in
     let a = s .args in
-    let e = c .before .copy .ensures in
     let none : a .levels - a .levels ≡ 0 = omega arith in (
       omega arith,
       s .pre .1 .0 .covered,
       rw none refl,
-      ap length e ∙ s .pre .1 .0 .plane-long,
-      s .pre .1 .1 .1,
-      rw (none, e) (reach-none (s .pre .1 .0)),
+      s .pre .1 .0 .plane-long,
+      s .pre .1 .1,
+      rw none (reach-none (s .pre .1 .0)),
       s .pre .1 .0 .some,
     )
 
@@ -85,13 +81,13 @@ sub-left : tie.Need-sub-left Inv-loop μ-loop
 sub-left c = omega arith
 
 shr-tall : tie.Need-shr-tall Inv-loop μ-loop
-shr-tall c = omega (arith, c .before .before .before .before .before .before .pre .1 .0 .most)
+shr-tall c = omega (arith, c .before .before .before .pre .1 .0 .most)
 
 shr-wide : tie.Need-shr-wide Inv-loop μ-loop
-shr-wide c = omega (arith, c .before .before .before .before .before .before .pre .1 .0 .most)
+shr-wide c = omega (arith, c .before .before .before .pre .1 .0 .most)
 
 mul-first : tie.Need-mul-first Inv-loop μ-loop
-mul-first c = omega (arith, level c .covered, c .before .before .before .before .before .before .good)
+mul-first c = omega (arith, level c .covered, c .before .before .before .good)
 
 sub-first : tie.Need-sub-first Inv-loop μ-loop
 sub-first c = takes c
@@ -99,7 +95,7 @@ sub-first c = takes c
 rise-requires : tie.Need-rise-requires Inv-loop μ-loop
 rise-requires c κs =
     let i = c .before .before in
-    let s = i .before .before .before .before .before .before in
+    let s = i .before .before .before in
     (s .pre .0, (level i, omega (arith, i .before .loop .inv .3, i .before .loop .inv .4)))
 
 mul-weight : tie.Need-mul-weight Inv-loop μ-loop
@@ -112,7 +108,7 @@ loop-again : tie.Need-loop-again Inv-loop μ-loop
 loop-again c =
     let i = c .before .before .before .before .before in
     let l = i .before .loop in
-    let s = i .before .before .before .before .before .before in
+    let s = i .before .before .before in
     let a = s .args in
     let d = l .left - 1 in
     let tall = a .height / 2 ^ d in
@@ -124,7 +120,7 @@ loop-again c =
       omega (arith, l .inv .2, ap (λ (n : ℕ). 4 ^ n) e, pow-suc 4 (a .levels - l .left)),
       ap length (r .1) ∙ length-rectangles (putColumns (a .height) (values i) (tall / 4) (wide / 4) (l .scratch)) (a .height) tall (level i .inside) (l .numerators) wide ∙ l .inv .3,
       ap length (r .0) ∙ scratch-length i,
-      subst⁻¹ (λ (x : List ℤ). Reached (a .height) (a .width) d (a .levels - d) (a .coverings .now) (imageOf (a .height) (a .plane .now)) (imageOf (a .height) x)) (r .1)
+      subst⁻¹ (λ (x : List ℤ). Reached (a .height) (a .width) d (a .levels - d) (a .coverings .now) (imageOf (a .height) (a .numerators .now)) (imageOf (a .height) x)) (r .1)
           (turn-reached (s .pre .1 .0) (turn i) (l .numerators) (l .inv .3) (l .inv .5) (l .scratch) (l .inv .4)),
       omega arith,
     )
@@ -132,7 +128,7 @@ loop-again c =
 rise-requires-2 : tie.Need-rise-requires-2 Inv-loop μ-loop
 rise-requires-2 c κs =
     let i = c .before .before in
-    let s = i .before .before .before .before .before .before in
+    let s = i .before .before .before in
     (s .pre .0, (last-level i, omega (arith, i .before .loop .inv .3, i .before .loop .inv .4)))
 
 clear-requires : tie.Need-clear-requires Inv-loop μ-loop
@@ -149,15 +145,15 @@ returns c =
     let m = c .before .before .before .before .before in
     let i = m .before .before .before in
     let l = i .before .loop in
-    let s = i .before .before .before .before .before .before in
+    let s = i .before .before .before in
     let a = s .args in
     let r = m .rise2 .ensures in
     let values : ℕ → ℕ → List ℤ = mergedBlock (a .height) (a .height) (a .width) (l .weight) (after 0 (listed (a .coverings .now))) (l .numerators) in
     let columns = putColumns (a .height) values (a .height / 4) (a .width / 4) (l .scratch) in
     let q : a .levels - 0 ≡ a .levels = omega arith in (
       reach-all (s .pre .1 .0) _ (ap length (r .1) ∙ length-rectangles columns (a .height) (a .height) (last-level i .inside) (l .numerators) (a .width) ∙ l .inv .3)
-          (subst⁻¹ (λ (x : List ℤ). Reached (a .height) (a .width) 0 (a .levels) (a .coverings .now) (imageOf (a .height) (a .plane .now)) (imageOf (a .height) x)) (r .1)
-          (subst (λ (k : ℕ). Reached (a .height) (a .width) 0 k (a .coverings .now) (imageOf (a .height) (a .plane .now)) (imageOf (a .height) (rectangles (a .height) (a .height) (a .width) columns (l .numerators)))) q
+          (subst⁻¹ (λ (x : List ℤ). Reached (a .height) (a .width) 0 (a .levels) (a .coverings .now) (imageOf (a .height) (a .numerators .now)) (imageOf (a .height) x)) (r .1)
+          (subst (λ (k : ℕ). Reached (a .height) (a .width) 0 k (a .coverings .now) (imageOf (a .height) (a .numerators .now)) (imageOf (a .height) (rectangles (a .height) (a .height) (a .width) columns (l .numerators)))) q
           (turn-reached (s .pre .1 .0) (last i) (l .numerators) (l .inv .3) (l .inv .5) (l .scratch) (l .inv .4)))),
       c .before .clear .ensures
           ∙ ap (λ (n : ℕ). replicate n (pos 0)) (ap length (r .0) ∙ columns-length (a .height) values (a .height / 4) (a .width / 4) (l .scratch) (omega (arith, last-level i .inside)) ∙ l .inv .4),
@@ -169,7 +165,6 @@ synthesise-spec =
     (tie.spec
     Inv-loop
     μ-loop
-    copy-requires
     loop-holds
     sub-left
     shr-tall

@@ -11,7 +11,8 @@ use Rattle.pyramid.specs.Places.{planePlaces}
 use Rattle.pyramid.specs.Ranges.{fitsRange}
 use Rattle.places.specs.Walk.{entryOf}
 use Rattle.places.proofs.Sides.{passed}
-use Rattle.sheet_text.specs.Rows.{isZero, valuesOf}
+use Rattle.integers.specs.Zero.{isZero}
+use Rattle.sheet_text.specs.Rows.{valuesOf}
 use Rattle.sheet_text.specs.Sheet.{isSome}
 use Rattle.sheet_scan.specs.Scan.{fitAlong}
 use Rattle.sheet_scan.specs.Front.{walkTo, Standing, placesLeft}

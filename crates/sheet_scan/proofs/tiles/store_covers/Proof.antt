@@ -7,7 +7,8 @@ use native.Mathlib.Omega.{arith}
 use lib.IntN.{ℤ, pos, natAbs}
 use lib.ListN.{length-map, set, length-set, length, getD, drop, length-append}
 use Rattle.integers.specs.Lists.{every}
-use Rattle.integers.proofs.Half.{half, half-store, half-end, half-length}
+use Rattle.integers.specs.Lists.{half}
+use Rattle.integers.proofs.Half.{half-store, half-end, half-length}
 use Rattle.coverings.specs.Entry.{isNumber}
 use Rattle.text.specs.Lines.{four, linesAt, cellAt}
 use Rattle.text.proofs.Many.{four-none, FourLine, four-line, lines-stop}

@@ -1,8 +1,8 @@
--- `sheet_scan::scan::is_zero` meets its contract. Assumes nothing.
+-- `integers::is_zero` meets its contract. Assumes nothing.
 use mathlib.Core.Path.{sym}
 use Rattle.integers.proofs.Signs.{bits-zero, bits-not-zero}
-use Rattle.sheet_scan.proofs.scan.is_zero.Statement.{statement}
-use Rattle.sheet_scan.proofs.scan.is_zero.Tie as tie
+use Rattle.integers.proofs.is_zero.Statement.{statement}
+use Rattle.integers.proofs.is_zero.Tie as tie
 
 returns : tie.Need-returns
 returns c = let s = c .before in sym (bits-zero (s .args .v) (s .fits .v .sfits) (c .if1 .taken))

@@ -1,0 +1,20 @@
+-- What the parts of the step leave in a slice: the gradient of numerators, and the plane that is restored. Assumes nothing.
+use mathlib.Core.Bool.{Bool, not, cond, _||_}
+use mathlib.Core.List.{List}
+use Prim.Native.Nat.{ℕ}
+use lib.IntN.{ℤ, pos, _-ℤ_, _*ℤ_}
+use Rattle.integers.specs.Zero.{isZero}
+use Rattle.pyramid.specs.Slices.{imageOf, sliceOf}
+use Rattle.variation.specs.Smooth.{gradient, masked}
+
+-- The gradient of the picture whose numerators a slice holds.
+abbrev pub gradientOf : ℕ → ℕ → List ℤ → List ℤ
+gradientOf h w Y = sliceOf h w (gradient h w (imageOf h Y))
+
+-- One entry of the plane that is restored: 16 z, less p times d where z is neither of band 0 nor kept.
+abbrev pub mixedEntry : ℕ → Bool → ℤ → ℤ → ℤ
+mixedEntry p low z d = pos 16 *ℤ z -ℤ pos p *ℤ cond (low || not (isZero z)) (pos 0) d
+
+-- All of them: P is the kept plane, D the gradient decomposed.
+abbrev pub mixedOf : ℕ → ℕ → ℕ → ℕ → List ℤ → List ℤ → List ℤ
+mixedOf R h w p P D = sliceOf h w (λ y x. pos 16 *ℤ imageOf h P y x -ℤ pos p *ℤ masked R h w (imageOf h P) (imageOf h D) y x)
