@@ -43,6 +43,8 @@ uint32_t base_join(int form, size_t left_height, size_t left_width, size_t left_
 uint32_t base_window(size_t height, size_t width, size_t levels, const int64_t *plane, size_t plane_len, const uint8_t *coverings,
                      size_t coverings_len, size_t top, size_t left, size_t window_height, size_t window_width, uint16_t *samples,
                      size_t samples_len);
+uint32_t base_smooth(size_t height, size_t width, size_t levels, const int64_t *plane, size_t plane_len, const uint8_t *coverings,
+                     size_t coverings_len, uint64_t step, int64_t *result, size_t result_len, int64_t *scratch, size_t scratch_len);
 uint32_t base_write(int form, size_t height, size_t width, size_t levels, const int64_t *plane, size_t plane_len, const uint8_t *coverings,
                     size_t coverings_len, uint8_t *buffer, size_t buffer_len, size_t *length);
 uint32_t base_read(const uint8_t *text, size_t text_len, int64_t *plane, size_t plane_len, uint8_t *coverings, size_t coverings_len,

@@ -140,6 +140,19 @@ static void agree_windows(size_t height, size_t width, size_t levels, const int6
     }
 }
 
+/* Whether both smooth a plane alike: the step 0 gives 16 times its numerators. */
+static void agree_smoothed(size_t height, size_t width, size_t levels, uint64_t step, const int64_t *p, const uint8_t *c, const int64_t *n)
+{
+    size_t area = height * width, blocks = tetrolet_blocks(height, width, levels), same = 0, bytes = area * sizeof(int64_t);
+    int64_t *ours = plane[1], *theirs = numerators[1];
+    uint32_t a = tetrolet_smooth(height, width, levels, p, area, c, blocks, step, ours, area, scratch[0], area);
+    uint32_t b = base_smooth(height, width, levels, p, area, c, blocks, step, theirs, area, scratch[1], area);
+    check(a == 0 && b == 0 && !memcmp(ours, theirs, bytes) && !memcmp(scratch[0], scratch[1], bytes), "smoothed planes", height, width, levels);
+    for (size_t k = 0; k < area; k++)
+        same += ours[k] == 16 * n[k];
+    check(step > 0 || same == area, "a plane smoothed by 0 and its numerators", height, width, levels);
+}
+
 /* Whether both restore plane and coverings alike by a list, in which they need not stand. Gives the answer. */
 static uint32_t agree_listed(size_t height, size_t width, size_t levels, const uint8_t *list, size_t count)
 {
@@ -211,6 +224,8 @@ static int agree(size_t height, size_t width, size_t levels, int kind)
     a = agree_listed(height, width, levels, sixteen, sizeof sixteen);
     check(a == 0 || a == TETROLET_UNLISTED, "answers with a list", height, width, levels);
     agree_windows(height, width, levels, plane[0], coverings[0], samples[0]);
+    agree_smoothed(height, width, levels, limit * 255 / 63, plane[0], coverings[0], numerators[0]);
+    agree_smoothed(height, width, levels, 0, plane[0], coverings[0], numerators[0]);
     uint32_t start = (uint32_t)next();
     a = tetrolet_test_image(height, width, start, samples[0], area);
     b = base_test_image(height, width, start, samples[1], area);
@@ -238,7 +253,7 @@ struct times {
     double restore_listed, base_restore_listed, restore_sixteen; /* of the plane by sixteen: with the list, and without it */
     double restore, base_restore, keep, base_keep, write, digits, printed, read, base_read, usage, base_usage, test, base_test, join, base_join[2];
     double window[WINDOWS], base_window[WINDOWS];
-    double kept_write, kept_digits, kept_read, kept_base_read; /* of the plane that keep leaves */
+    double kept_write, kept_digits, kept_read, kept_base_read, smooth, base_smooth; /* of the plane that keep leaves */
 };
 
 /* The best of several rounds. Each round has one call of each entry, so that a busy machine hits all alike. Joined are the two halves of the image, with
@@ -291,6 +306,11 @@ static struct times measure(size_t height, size_t width, size_t levels)
         TIME(t.base_keep, base_keep(height, width, levels, q, area, area / 10, &left));
         memcpy(q, p, bytes);
         TIME(t.keep, tetrolet_keep(height, width, levels, q, area, area / 10, &left));
+        for (int k = 0; k < 2; k++) /* which of the two is the first goes by turns */
+            if ((run + k) % 2)
+                TIME(t.smooth, tetrolet_smooth(height, width, levels, q, area, c, blocks, 16, n, area, w, area));
+            else
+                TIME(t.base_smooth, base_smooth(height, width, levels, q, area, c, blocks, 16, n, area, w, area));
         TIME(t.kept_digits, base_write(BASE_DIGITS, height, width, levels, q, area, c, blocks, text, TETROLET_MAX_SHEET, &length));
         TIME(t.kept_write, tetrolet_write(height, width, levels, q, area, c, blocks, text, TETROLET_MAX_SHEET, &length));
         TIME(t.kept_base_read, base_read(text, length, n, area, d, blocks, &rows, &columns, &l));
@@ -358,6 +378,7 @@ static void strip(size_t height, size_t width, size_t levels)
     line("join", t.join, "faster", faster(t.base_join[BASE_SINGLE], t.base_join[BASE_FOURS]), 0);
     line("window 64", t.window[2], "descent", t.base_window[2], 0);
     line("window all", t.window[4], "descent", t.base_window[4], 0);
+    line("smooth", t.smooth, "plain", t.base_smooth, 0);
 }
 
 #define SHEETS 20000
@@ -490,7 +511,8 @@ int main(int argc, char **argv)
                     joined += (size_t)agree(height, width, levels, kind);
                     strips += height != width;
                 }
-    printf("both agree on %zu images, %zu of them strips, six windows of each, and on %zu joined from two strips\n\n", images, strips, joined);
+    printf("both agree on %zu images, %zu of them strips, six windows and two smoothing steps of each, and on %zu joined from two strips\n\n", images, strips,
+           joined);
 
     struct times t = measure(512, 512, 8);
     head(512, 512, 8);
@@ -527,6 +549,7 @@ int main(int argc, char **argv)
         snprintf(name, sizeof name, "window %u", (unsigned)side_of(k, 512));
         line(name, t.window[k], "descent", t.base_window[k], k < 3 ? 1.5 : 1.3);
     }
+    line("smooth", t.smooth, "plain", t.base_smooth, 1.3);
 
     printf("\nwindows of it beside the library's own restore, milliseconds\n");
     line("window 64", t.window[2], "restore", t.restore, 1.0 / 3);

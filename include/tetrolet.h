@@ -47,7 +47,8 @@ enum {
     TETROLET_MISMATCH = 15,     /* join: the heights, the widths or the levels of the two strips differ */
     TETROLET_JOINED_WIDTH = 16, /* join: the joined width is over 512 */
     TETROLET_WINDOW = 17,       /* window: it has no cell, or reaches past the image */
-    TETROLET_UNLISTED = 18      /* restore listed: a covering that some block uses is missing from the list */
+    TETROLET_UNLISTED = 18,     /* restore listed: a covering that some block uses is missing from the list */
+    TETROLET_STEP = 19          /* smooth: the step is over 255 */
 };
 
 /* The largest counts: samples of an image, coverings of an image, bytes of a sheet, bytes of a usage list. */
@@ -169,6 +170,23 @@ uint32_t tetrolet_join(size_t left_height, size_t left_width, size_t left_levels
                        const uint8_t *left_coverings, size_t left_coverings_len, size_t right_height, size_t right_width, size_t right_levels,
                        const int64_t *right_plane, size_t right_plane_len, const uint8_t *right_coverings, size_t right_coverings_len,
                        int64_t *plane, size_t plane_len, uint8_t *coverings, size_t coverings_len);
+
+/*
+ * One smoothing step, which lessens the blocky look of an image that was cut and spares what was kept. Y are the numerators that tetrolet_restore gives.
+ * The gradient of their total variation at a cell is twice the sum of the signs, -1, 0 or 1, of Y here minus Y there, over its neighbours above, below,
+ * left and right inside the image. It is decomposed by the coverings lent, set to 0 in band 0 and wherever the plane is not 0, and restored to numerators G.
+ *   plane      height * width entries in range, as for tetrolet_restore, read
+ *   coverings  B numbers, 1 to 117, read
+ *   step       p, 0 to 255
+ *   result     height * width entries, written: 16 * Y - p * G. Decomposed by the same coverings, they show 16 * 4^R times the plane in band 0 and wherever
+ *              it is not 0
+ *   scratch    height * width entries; they may hold anything, and hold zeros after an accepted call
+ * No samples are given. The caller has them from result / (16 * 4^R), rounded to nearest, halves upward, and held to 0 and 4,095, as tetrolet_restore has
+ * them from numerators / 4^R. A step of 0 gives those of tetrolet_restore. A large step may raise the total variation.
+ * Refusals: 1, 2, 3, 5, 6, 19. The step may be any number: nothing is narrowed.
+ */
+uint32_t tetrolet_smooth(size_t height, size_t width, size_t levels, const int64_t *plane, size_t plane_len, const uint8_t *coverings,
+                         size_t coverings_len, uint64_t step, int64_t *result, size_t result_len, int64_t *scratch, size_t scratch_len);
 
 /*
  * Writes a plane and its coverings as a sheet.

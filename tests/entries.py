@@ -166,6 +166,7 @@ ENTRIES = {
     "cut": ("tetrolet_threshold", FRAME + [Slice("plane", "i64", of_area), Number("threshold", "u64"), Given("left")]),
     "join": ("tetrolet_join", [Strip("left"), Strip("right"), Slice("plane", "i64", of_joined_area), Slice("covers", "u8", of_joined_blocks)]),
     "window": ("tetrolet_window", FRAME + [PLANE, COVERS] + WINDOW + [Slice("samples", "u16", of_window)]),
+    "smooth": ("tetrolet_smooth", FRAME + [PLANE, COVERS, Number("p", "u64"), Slice("result", "i64", of_area), SCRATCH]),
     "write": ("tetrolet_write", FRAME + [PLANE, COVERS, Text("tray", "u8", of_text), Given("length")]),
     "read": ("tetrolet_read", [Slice("text", "u8"), Slice("plane", "i64", of_sheet_area), Slice("covers", "u8", of_sheet_blocks), Given("height"), Given("width"), Given("levels")]),
     "usage": ("tetrolet_usage", [COVERS, Text("tray", "u8", of_text), Given("length")]),
