@@ -4,7 +4,8 @@
 
    fuzz [CALLS [SEED]]
 
-   Before the random calls, some small sheets are read in every prefix, and with every byte changed to every other value.
+   Before the random calls, some small sheets are read in every prefix, and with every byte changed to every other value; and large planes are
+   smoothed, most of their entries at the ends of their ranges.
 
    Each slice lent to the library stands flush against a page that may not be touched, before it or after it, so that a read or a
    store outside it ends the program. The two others work on heap blocks of exact length, the plain C under the address sanitizer. */
@@ -347,11 +348,8 @@ static void count_strip(struct tally *t, struct frame f)
     t->wide += f.made_height < f.made_width;
 }
 
-/* A length that is now and then wrong. */
-static size_t length_near(size_t n)
+static size_t wrong_length(size_t n)
 {
-    if (!once_in(50))
-        return n;
     switch (below(5)) {
     case 0: return 0;
     case 1: return n + 1;
@@ -359,6 +357,12 @@ static size_t length_near(size_t n)
     case 3: return n / 2;
     default: return n * 2;
     }
+}
+
+/* A length that is now and then wrong. */
+static size_t length_near(size_t n)
+{
+    return once_in(50) ? wrong_length(n) : n;
 }
 
 static void fill_samples(uint16_t *p, size_t n)
@@ -370,11 +374,22 @@ static void fill_samples(uint16_t *p, size_t n)
         p[below(n)] = (uint16_t)(once_in(2) ? 4096 : 4096 + below(61440));
 }
 
-/* Now and then a covering that there is not. */
+/* A covering that there is not. */
+static uint8_t bad_covering(void)
+{
+    switch (below(6)) {
+    case 0:
+    case 1: return 0;
+    case 2: return 118;
+    case 3: return 255;
+    default: return (uint8_t)(118 + below(138));
+    }
+}
+
 static void spoil_coverings(uint8_t *p, size_t n)
 {
     if (n > 0 && once_in(30))
-        p[below(n)] = (uint8_t)(once_in(3) ? 0 : 118 + below(138));
+        p[below(n)] = bad_covering();
 }
 
 static void fill_coverings(uint8_t *p, size_t n)
@@ -501,13 +516,34 @@ static void fill_real(int64_t *p, uint8_t *coverings, struct frame f)
     free(scratch);
 }
 
-/* Now and then an entry out of range. */
-static void spoil_plane(int64_t *p, size_t n)
+/* An entry that is out of range at most places, or at some. */
+static int64_t bad_entry(void)
 {
     static const int64_t bad[] = { INT64_MIN, INT64_MAX, -1, INT64_MIN + 1, 8190, 8191, -8190, -8191, 16380, 16381, 32760, 32761, -32761, 268369920,
                                    268369921, (int64_t)1 << 32 };
+    return bad[below(sizeof bad / sizeof *bad)];
+}
+
+static void spoil_plane(int64_t *p, size_t n)
+{
     if (n > 0 && once_in(25))
-        p[below(n)] = bad[below(sizeof bad / sizeof *bad)];
+        p[below(n)] = bad_entry();
+}
+
+/* How large the entry at place i may be, and whether it is of the low-pass. */
+static int64_t most_at(struct frame f, size_t i, int *low)
+{
+    size_t x = i / f.made_height, y = i % f.made_height, r = 1;
+    while (r < f.made_levels && y < f.made_height >> r && x < f.made_width >> r)
+        r++;
+    *low = y < f.made_height >> f.made_levels && x < f.made_width >> f.made_levels;
+    return *low ? (int64_t)4095 << 2 * f.made_levels : (int64_t)8190 << 2 * (r - 1);
+}
+
+/* An end of the range of an entry that may be so large. */
+static int64_t end_of(int64_t most, int low)
+{
+    return once_in(2) ? most : low ? 0 : -most;
 }
 
 /* A plane: of a real image, or random entries up to their ranges; now and then an entry out of range. */
@@ -520,17 +556,14 @@ static void fill_plane(int64_t *p, size_t n, struct frame f)
     } else {
         uint64_t kind = below(4);
         for (size_t i = 0; i < n; i++) {
-            size_t x = i / f.made_height, y = i % f.made_height, r = 1;
-            while (r < f.made_levels && y < f.made_height >> r && x < f.made_width >> r)
-                r++;
-            int low = y < f.made_height >> f.made_levels && x < f.made_width >> f.made_levels;
-            int64_t most = low ? (int64_t)4095 << 2 * f.made_levels : (int64_t)8190 << 2 * (r - 1);
+            int low;
+            int64_t most = most_at(f, i, &low);
             if (kind == 0)
                 p[i] = 0;
             else if (kind == 1)
                 p[i] = low ? (int64_t)below((uint64_t)most + 1) : (int64_t)below(2 * (uint64_t)most + 1) - most;
             else if (kind == 2)
-                p[i] = once_in(2) ? most : low ? 0 : -most;
+                p[i] = end_of(most, low);
             else
                 p[i] = low ? (int64_t)below(9) : (int64_t)below(9) - 4;
         }
@@ -1054,6 +1087,202 @@ static void call_window(struct tally *t)
         is_window_of_image(f, w, plane, coverings, samples->lib);
 }
 
+/* A step: none, small ones, the largest, the first that is too large, large ones whose low bits are a good one, or anything. */
+static uint64_t make_step(void)
+{
+    switch (below(24)) {
+    case 0:
+    case 1: return 0;
+    case 2: return 1;
+    case 3:
+    case 4: return 255;
+    case 5: return 256;
+    case 6: return (uint64_t)1 << 63;
+    case 7: return UINT64_MAX;
+    case 8: return ((uint64_t)1 << (8 + below(56))) + below(256);
+    case 9: return next();
+    default: return below(256);
+    }
+}
+
+/* A plane of few entries over a low-pass that is flat or not, so that many neighbours are alike: no other entry, small ones, or those that may be no
+   larger. */
+static void fill_sparse(int64_t *p, size_t n, struct frame f)
+{
+    uint64_t kind = below(3), flat = below(((uint64_t)4095 << 2 * f.made_levels) + 1), alike = below(3);
+    for (size_t i = 0; i < n; i++) {
+        int low;
+        int64_t most = most_at(f, i, &low), v = kind == 1 ? 1 + (int64_t)below(9) : most;
+        if (low)
+            p[i] = alike ? (int64_t)flat : (int64_t)below((uint64_t)most + 1);
+        else
+            p[i] = kind == 0 || !once_in(12) ? 0 : once_in(2) ? v : -v;
+    }
+}
+
+/* The label of each cell's piece, by the covering, as restoring shows it: of a low-pass that is 1 at one place, and of nothing else, it makes 1 at the
+   cells of the piece with that label. */
+static uint8_t labels[118][16];
+
+static void find_labels(void)
+{
+    for (uint8_t covering = 1; covering <= 117; covering++)
+        for (uint8_t label = 0; label < 4; label++) {
+            int64_t plane[16] = { 0 }, numerators[16], scratch[16];
+            uint16_t samples[16];
+            plane[label / 2 * 4 + label % 2] = 1;
+            if (tetrolet_restore(4, 4, 1, plane, 16, &covering, 1, numerators, 16, samples, 16, scratch, 16) != 0)
+                differ("a low-pass of one 1 is not restored");
+            for (int cell = 0; cell < 16; cell++)
+                if (numerators[cell] != 0)
+                    labels[covering][cell] = label;
+        }
+}
+
+/* Decomposes an image by given coverings, in place. */
+static void decompose_by(struct frame f, const uint8_t *coverings, int64_t *image)
+{
+    int64_t *from = malloc(f.height * f.width * sizeof *from);
+    for (size_t r = 1; r <= f.levels; r++) {
+        size_t h = f.height >> r, w = f.width >> r, down = h, across = w * f.height;
+        memcpy(from, image, f.height * f.width * sizeof *from);
+        for (size_t k = 0; k < (h / 2) * (w / 2); k++) {
+            size_t i = k % (h / 2), j = k / (h / 2), count[4] = { 0 };
+            int64_t v[4][4];
+            for (size_t cell = 0; cell < 16; cell++) {
+                size_t label = labels[coverings[k]][cell];
+                v[label][count[label]++] = from[(4 * j + cell / 4) * f.height + 4 * i + cell % 4];
+            }
+            for (size_t label = 0; label < 4; label++) {
+                int64_t *p = v[label], *to = image + (2 * j + label / 2) * f.height + 2 * i + label % 2;
+                to[0] = p[0] + p[1] + p[2] + p[3];
+                to[across] = p[0] + p[1] - p[2] - p[3];
+                to[down] = p[0] - p[1] + p[2] - p[3];
+                to[across + down] = p[0] - p[1] - p[2] + p[3];
+            }
+        }
+        coverings += (h / 2) * (w / 2);
+    }
+    free(from);
+}
+
+/* Two neighbours: twice the sign of their difference, for the one up, for the other down. */
+static void slope_between(const int64_t *values, size_t a, size_t b, int64_t *gradient)
+{
+    int64_t twice = values[a] > values[b] ? 2 : values[a] < values[b] ? -2 : 0;
+    gradient[a] += twice;
+    gradient[b] -= twice;
+}
+
+static void fill_gradient(struct frame f, const int64_t *values, int64_t *gradient)
+{
+    memset(gradient, 0, f.height * f.width * sizeof *gradient);
+    for (size_t x = 0; x < f.width; x++)
+        for (size_t y = 0; y < f.height; y++) {
+            if (y + 1 < f.height)
+                slope_between(values, x * f.height + y, x * f.height + y + 1, gradient);
+            if (x + 1 < f.width)
+                slope_between(values, x * f.height + y, (x + 1) * f.height + y, gradient);
+        }
+}
+
+/* What an accepted step shows when it is decomposed by the same coverings: 16 * 4^R times the plane in band 0 and wherever the plane is not 0; at the
+   other places the decomposed gradient of the numerators, -p * 4^R times. The step 0 gives 16 times the numerators. */
+static void is_smoothed(struct frame f, const int64_t *plane, const uint8_t *coverings, uint64_t step, const int64_t *result)
+{
+    size_t n = f.height * f.width, blocks = tetrolet_blocks(f.height, f.width, f.levels);
+    int64_t *numerators = malloc(n * sizeof *numerators), *gradient = malloc(n * sizeof *gradient), *shown = malloc(n * sizeof *shown);
+    int64_t whole = (int64_t)1 << 2 * f.levels;
+    uint16_t *samples = malloc(n * sizeof *samples);
+    if (tetrolet_restore(f.height, f.width, f.levels, plane, n, coverings, blocks, numerators, n, samples, n, shown, n) != 0)
+        differ("an accepted plane is not restored");
+    fill_gradient(f, numerators, gradient);
+    decompose_by(f, coverings, gradient);
+    memcpy(shown, result, n * sizeof *shown);
+    decompose_by(f, coverings, shown);
+    for (size_t k = 0; k < n; k++) {
+        int spared = (k % f.height < f.height >> f.levels && k / f.height < f.width >> f.levels) || plane[k] != 0;
+        if (step == 0 && result[k] != 16 * numerators[k])
+            differ("a step of 0 does not give 16 times the numerators");
+        if (spared && shown[k] != 16 * whole * plane[k])
+            differ("a step moves what it spares");
+        if (!spared && shown[k] != -(int64_t)step * whole * gradient[k])
+            differ("a step is not along the gradient");
+    }
+    free(numerators);
+    free(gradient);
+    free(shown);
+    free(samples);
+}
+
+/* Smooths by a step, when the plane and the coverings are set. */
+static void smooth_by(struct tally *t, struct frame f, uint64_t step, const struct slice *plane, const struct slice *coverings,
+                      const struct slice *result, const struct slice *scratch)
+{
+    settle();
+    uint32_t a = tetrolet_smooth(f.height, f.width, f.levels, plane->lib, plane->len, coverings->lib, coverings->len, step, result->lib, result->len,
+                                 scratch->lib, scratch->len);
+    unchanged(plane);
+    unchanged(coverings);
+    if (asks_plain(f.area)) {
+        int64_t gradient[256], decomposed[256], projected[256];
+        compare_plain(t, a, plain_smooth(words, WORDS, f.height, f.width, f.levels, plane->plain, plane->len, coverings->plain, coverings->len, step,
+                                         result->plain, result->len, scratch->plain, scratch->len, gradient, 256, decomposed, 256, projected, 256));
+    }
+    compare(t, a, base_smooth(f.height, f.width, f.levels, plane->base, plane->len, coverings->base, coverings->len, step, result->base, result->len,
+                              scratch->base, scratch->len));
+    if (a == 0)
+        is_smoothed(f, plane->lib, coverings->lib, step, result->lib);
+}
+
+/* Now and then there are several flaws at once. */
+static void call_smooth(struct tally *t)
+{
+    struct frame f = make_frame();
+    count_strip(t, f);
+    int flawed = once_in(12);
+    size_t lengths[4] = { f.area, f.blocks, f.area, f.area };
+    for (int k = 0; k < 4; k++)
+        lengths[k] = flawed && once_in(5) ? wrong_length(lengths[k]) : length_near(lengths[k]);
+    struct slice *plane = lend(lengths[0], 8), *coverings = lend(lengths[1], 1), *result = lend(lengths[2], 8), *scratch = lend(lengths[3], 8);
+    int64_t *p = plane->base;
+    uint8_t *c = coverings->base;
+    uint64_t step = make_step();
+    fill_strip(plane, coverings, f);
+    if (once_in(4))
+        fill_sparse(p, plane->len, f);
+    if (flawed && coverings->len > 0 && once_in(2))
+        c[below(coverings->len)] = bad_covering();
+    if (flawed && plane->len > 0 && once_in(2))
+        p[below(plane->len)] = bad_entry();
+    if (flawed && once_in(2))
+        step = 256 + below(1000);
+    smooth_by(t, f, step, plane, coverings, result, scratch);
+}
+
+/* Large numbers: large images with the most levels, most entries at an end of their range and the others 0, so that they move; the largest step. */
+static void smooth_largest(struct tally *t)
+{
+    for (size_t height = 128; height <= 512; height *= 2)
+        for (size_t width = 128; width <= 512; width *= 2, call_number++) {
+            struct frame f = { .made_height = height, .made_width = width };
+            f.made_levels = made_depth(&f);
+            settle_frame(&f);
+            struct slice *plane = lend(f.area, 8), *coverings = lend(f.blocks, 1), *result = lend(f.area, 8), *scratch = lend(f.area, 8);
+            int64_t *p = plane->base;
+            uint8_t *c = coverings->base;
+            for (size_t i = 0; i < f.area; i++) {
+                int low;
+                int64_t most = most_at(f, i, &low);
+                p[i] = low || !once_in(8) ? end_of(most, low) : 0;
+            }
+            for (size_t k = 0; k < f.blocks; k++)
+                c[k] = (uint8_t)(1 + below(117));
+            smooth_by(t, f, 255, plane, coverings, result, scratch);
+            drop();
+        }
+}
+
 /* A buffer for a text of n bytes: of that length, one more, one less, or any. */
 static struct slice *lend_buffer(size_t n)
 {
@@ -1190,6 +1419,8 @@ int main(int argc, char **argv)
     base_init();
     plain_words(words, WORDS);
     make_slots();
+    entry = "restore";
+    find_labels();
     struct {
         void (*run)(struct tally *);
         struct tally tally;
@@ -1204,6 +1435,7 @@ int main(int argc, char **argv)
         { call_threshold, { "threshold", 0, { 0 }, 0, 0, 0 } },
         { call_join, { "join", 0, { 0 }, 0, 0, 0 } },
         { call_window, { "window", 0, { 0 }, 0, 0, 0 } },
+        { call_smooth, { "smooth", 0, { 0 }, 0, 0, 0 } },
         { call_write, { "write", 0, { 0 }, 0, 0, 0 } },
         { call_read, { "read", 0, { 0 }, 0, 0, 0 } },
         { call_usage, { "usage", 0, { 0 }, 0, 0, 0 } },
@@ -1217,6 +1449,11 @@ int main(int argc, char **argv)
     read_each(&each, 4, 16, 1, 5);
     read_each(&each, 16, 8, 2, 9);
     printf("%llu texts near small sheets: %lu read, no difference\n", (unsigned long long)call_number, each.accepted);
+    struct tally largest = { "smooth", 0, { 0 }, 0, 0, 0 };
+    entry = largest.name;
+    call_number = 0;
+    smooth_largest(&largest);
+    printf("%lu large planes near the ends of their ranges smoothed, no difference\n", largest.accepted);
     for (call_number = 0; call_number < calls; call_number++) {
         size_t k = below(count);
         entry = entries[k].tally.name;

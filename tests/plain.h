@@ -35,6 +35,11 @@ uint32_t plain_window(const uint8_t *words, size_t words_len, size_t height, siz
                       const uint8_t *coverings, size_t coverings_len, size_t top, size_t left, size_t window_height, size_t window_width,
                       uint16_t *samples, size_t samples_len, int64_t *numerators, size_t numerators_len, uint16_t *picture, size_t picture_len,
                       int64_t *scratch, size_t scratch_len);
+/* gradient, decomposed and projected are room, each at least as long as the image. */
+uint32_t plain_smooth(const uint8_t *words, size_t words_len, size_t height, size_t width, size_t levels, const int64_t *plane, size_t plane_len,
+                      const uint8_t *coverings, size_t coverings_len, uint64_t step, int64_t *result, size_t result_len, int64_t *scratch,
+                      size_t scratch_len, int64_t *gradient, size_t gradient_len, int64_t *decomposed, size_t decomposed_len, int64_t *projected,
+                      size_t projected_len);
 uint32_t plain_write(size_t height, size_t width, size_t levels, const int64_t *plane, size_t plane_len, const uint8_t *coverings,
                      size_t coverings_len, uint8_t *buffer, size_t buffer_len, size_t *length);
 uint32_t plain_read(const uint8_t *text, size_t text_len, int64_t *plane, size_t plane_len, uint8_t *coverings, size_t coverings_len,
