@@ -1,6 +1,6 @@
 /* A caller in C: decomposes a small strip, first with a tolerance and then without, to show how many different coverings a mill needs; keeps the best
-   coefficients, writes the sheet, reads it back and restores it; looks at a window of it, which is restored alone; does the same with a list of sixteen
-   coverings, to show how much farther the picture is then. Then the strip as two halves, each decomposed and cut by itself, as a wide leaf is scanned: joined, they restore to the two side by side.
+   coefficients, writes the sheet, reads it back and restores it; looks at a window of it, which is restored alone; smooths it by one step; does the same
+   with a list of sixteen coverings, to show how much farther the picture is then. Then the strip as two halves, each decomposed and cut by itself, as a wide leaf is scanned: joined, they restore to the two side by side.
    Then what an installer runs: a test image, made from a number, goes there and back. */
 #include "sixteen.h"
 #include "tetrolet.h"
@@ -9,7 +9,7 @@
 #include <stdio.h>
 #include <stdlib.h>
 
-enum { HEIGHT = 8, WIDTH = 32, LEVELS = 2, AREA = HEIGHT * WIDTH, BLOCKS = 2 * 8 + 4, QUOTA = 60, TOLERANCE = 16 };
+enum { HEIGHT = 8, WIDTH = 32, LEVELS = 2, AREA = HEIGHT * WIDTH, BLOCKS = 2 * 8 + 4, QUOTA = 60, TOLERANCE = 16, STEP = 8 };
 
 /* A window of it, which begins and ends inside blocks: its first row and column, its rows and its columns. */
 enum { TOP = 3, LEFT = 13, TALL = 4, WIDE = 6, CELLS = TALL * WIDE };
@@ -67,6 +67,26 @@ static int same_window(const uint16_t *window, const uint16_t *image)
     return same;
 }
 
+/* The sample of a number that smoothing gives: over 16 * 4^LEVELS, rounded to nearest, halves upward, and held to 0 and 4,095. */
+static uint16_t smoothed_sample(int64_t v)
+{
+    int64_t whole = (int64_t)16 << 2 * LEVELS, up = v + whole / 2;
+    return (uint16_t)(up < 0 ? 0 : up / whole > 4095 ? 4095 : up / whole);
+}
+
+/* The absolute differences of each sample to its neighbours above, below, left and right, all added up: each pair counts twice. */
+static long total_variation(const uint16_t *image)
+{
+    long sum = 0;
+    for (int k = 0; k < AREA; k++) {
+        if (k % HEIGHT + 1 < HEIGHT)
+            sum += 2 * labs((long)image[k] - image[k + 1]);
+        if (k / HEIGHT + 1 < WIDTH)
+            sum += 2 * labs((long)image[k] - image[k + HEIGHT]);
+    }
+    return sum;
+}
+
 /* Joins the two halves, which stand one after the other, and restores what comes of it. */
 static void join_and_restore(const int64_t *halves, const uint8_t *half_coverings, int64_t *numerators, uint16_t *samples)
 {
@@ -121,6 +141,14 @@ int main(void)
     accepted("window", tetrolet_window(height, width, levels, plane_read, AREA, coverings_read, BLOCKS, TOP, LEFT, TALL, WIDE, window, CELLS));
     printf("window of height %d, width %d from row %d, column %d: %d of %d samples are those restored there\n", TALL, WIDE, TOP, LEFT,
            same_window(window, samples), CELLS);
+
+    static int64_t result[AREA];
+    static uint16_t smooth[AREA];
+    accepted("smooth", tetrolet_smooth(height, width, levels, plane_read, AREA, coverings_read, BLOCKS, STEP, result, AREA, scratch, AREA));
+    for (int k = 0; k < AREA; k++)
+        smooth[k] = smoothed_sample(result[k]);
+    printf("smoothed by a step of %d: total variation %ld before, %ld after; squared distance %ld\n", STEP, total_variation(samples),
+           total_variation(smooth), squared_distance(smooth, image));
 
     accepted("decompose listed", tetrolet_decompose_listed(HEIGHT, WIDTH, LEVELS, 0, image, AREA, sixteen, sizeof sixteen, plane, AREA, coverings,
                                                            BLOCKS, scratch, AREA));

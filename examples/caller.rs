@@ -1,6 +1,6 @@
 // A caller in Rust: decomposes a small strip, first with a tolerance and then without, to show how many different coverings a mill needs; keeps the best
-// coefficients, writes the sheet, reads it back and restores it; looks at a window of it, which is restored alone; does the same with a list of sixteen
-// coverings, to show how much farther the picture is then. Then the strip as two halves, each decomposed and cut by itself, as a wide leaf is scanned: joined, they restore to the two side by side.
+// coefficients, writes the sheet, reads it back and restores it; looks at a window of it, which is restored alone; smooths it by one step; does the same
+// with a list of sixteen coverings, to show how much farther the picture is then. Then the strip as two halves, each decomposed and cut by itself, as a wide leaf is scanned: joined, they restore to the two side by side.
 // Then what an installer runs: a test image, made from a number, goes there and back.
 // The functions below wrap the C entries in slices, so that lengths and pointers cannot be mistaken.
 
@@ -149,6 +149,20 @@ mod ffi {
             window_width: usize,
             samples: *mut u16,
             samples_len: usize,
+        ) -> u32;
+        pub fn tetrolet_smooth(
+            height: usize,
+            width: usize,
+            levels: usize,
+            plane: *const i64,
+            plane_len: usize,
+            coverings: *const u8,
+            coverings_len: usize,
+            step: u64,
+            result: *mut i64,
+            result_len: usize,
+            scratch: *mut i64,
+            scratch_len: usize,
         ) -> u32;
         pub fn tetrolet_test_image(
             height: usize,
@@ -343,7 +357,7 @@ fn keep(
     answer(n, left)
 }
 
-// A plane with its coverings: a strip that is joined to another, or that a window is looked at of.
+// A plane with its coverings: a strip that is joined to another, that a window is looked at of, or that is smoothed.
 struct Strip<'a> {
     height: usize,
     width: usize,
@@ -407,6 +421,26 @@ fn window(strip: &Strip, w: &Window, samples: &mut [u16]) -> Answer<()> {
     answer(n, ())
 }
 
+fn smooth(strip: &Strip, step: u64, result: &mut [i64], scratch: &mut [i64]) -> Answer<()> {
+    let n = unsafe {
+        ffi::tetrolet_smooth(
+            strip.height,
+            strip.width,
+            strip.levels,
+            strip.plane.as_ptr(),
+            strip.plane.len(),
+            strip.coverings.as_ptr(),
+            strip.coverings.len(),
+            step,
+            result.as_mut_ptr(),
+            result.len(),
+            scratch.as_mut_ptr(),
+            scratch.len(),
+        )
+    };
+    answer(n, ())
+}
+
 fn write(
     height: usize,
     width: usize,
@@ -465,6 +499,7 @@ const AREA: usize = HEIGHT * WIDTH;
 const BLOCKS: usize = 2 * 8 + 4;
 const QUOTA: u64 = 60;
 const TOLERANCE: u64 = 16;
+const STEP: u64 = 8;
 
 // A window of it, which begins and ends inside blocks.
 const WINDOW: Window = Window {
@@ -578,6 +613,26 @@ fn restored_by(plane: &[i64], coverings: &[u8], list: &[u8]) -> Answer<Vec<u16>>
     Ok(samples)
 }
 
+// The samples that a smoothing step gives: over 16 * 4^levels, rounded to nearest, halves upward, and held to 0 and 4,095.
+fn smoothed(strip: &Strip, step: u64) -> Answer<Vec<u16>> {
+    let (mut result, mut scratch) = (vec![0; strip.plane.len()], vec![0; strip.plane.len()]);
+    smooth(strip, step, &mut result, &mut scratch)?;
+    let whole = 16i64 << (2 * strip.levels);
+    let sample = |v: i64| (v + whole / 2).div_euclid(whole).clamp(0, 4095) as u16;
+    Ok(result.into_iter().map(sample).collect())
+}
+
+// The absolute differences of each sample to its neighbours above, below, left and right, all added up: each pair counts twice.
+fn total_variation(image: &[u16], height: usize) -> u64 {
+    let difference = |a: usize, b: usize| image[a].abs_diff(image[b]) as u64;
+    let below = |k: usize| (k + 1) % height > 0;
+    let down = (0..image.len())
+        .filter(|k| below(*k))
+        .map(|k| difference(k, k + 1));
+    let across = (height..image.len()).map(|k| difference(k - height, k));
+    2 * down.chain(across).sum::<u64>()
+}
+
 // The numerators and the samples of two halves, joined.
 fn joined(left: &Strip, right: &Strip) -> Answer<(Vec<i64>, Vec<u16>)> {
     let (mut plane, mut coverings) = (vec![0; AREA], vec![0; BLOCKS]);
@@ -661,6 +716,14 @@ fn run() -> Answer<()> {
         "window of height {tall}, width {wide} from row {top}, column {left}: {} of {} samples are those restored there",
         same(&seen, &part(&samples, height, &WINDOW)),
         seen.len()
+    );
+
+    let smooth = smoothed(&strip, STEP)?;
+    println!(
+        "smoothed by a step of {STEP}: total variation {} before, {} after; squared distance {}",
+        total_variation(&samples, height),
+        total_variation(&smooth, height),
+        squared_distance(&image, &smooth)
     );
 
     let (mut plane, coverings) = listed(&image, &SIXTEEN)?;
