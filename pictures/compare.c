@@ -125,30 +125,6 @@ int main(int argc, char **argv)
     accepted("keep", base_keep_raw(height, width, levels, kept, area, quota, &left));
     restore_and_say("by |W| alone:", height, width, levels, left_raw);
 
-    /* All use the whole range of the original's samples. */
     const uint16_t *shown[3] = { image, left_old, left_ours };
-    unsigned dark = 4095, bright = 0;
-    for (size_t i = 0; i < area; i++) {
-        dark = image[i] < dark ? image[i] : dark;
-        bright = image[i] > bright ? image[i] : bright;
-    }
-    unsigned span = bright > dark ? bright - dark : 1;
-    size_t gap = 8, columns = 3 * width + 2 * gap, rows = 2 * height + gap;
-    size_t part_x = width * 3 / 16, part_y = height / 2; /* the part that is shown large */
-    uint8_t *grey = malloc(columns * rows);
-    if (grey == NULL)
-        return 2;
-    memset(grey, 255, columns * rows);
-    for (int k = 0; k < 3; k++)
-        for (size_t y = 0; y < height; y++)
-            for (size_t x = 0; x < width; x++)
-                for (int big = 0; big < 2; big++) {
-                    size_t sx = big ? part_x + x / 4 : x, sy = big ? part_y + y / 4 : y;
-                    unsigned v = shown[k][sx * height + sy];
-                    v = v < dark ? dark : v > bright ? bright : v;
-                    grey[(y + (big ? height + gap : 0)) * columns + (size_t)k * (width + gap) + x] = (uint8_t)((v - dark) * 255 / span);
-                }
-    int good = png_write(stdout, grey, (uint32_t)columns, (uint32_t)rows);
-    free(grey);
-    return !good;
+    return !png_panels(stdout, shown, 3, height, width);
 }

@@ -40,6 +40,22 @@ unsigned long long squared_distance(const uint16_t *a, const uint16_t *b, size_t
     return sum;
 }
 
+static unsigned long long apart(int64_t a, int64_t b)
+{
+    return (unsigned long long)(a < b ? b - a : a - b);
+}
+
+unsigned long long total_variation(const int64_t *values, size_t height, size_t width)
+{
+    unsigned long long sum = 0;
+    for (size_t x = 0; x < width; x++)
+        for (size_t y = 0; y < height; y++) {
+            const int64_t *v = values + x * height + y;
+            sum += (y + 1 < height ? apart(v[0], v[1]) : 0) + (x + 1 < width ? apart(v[0], v[height]) : 0);
+        }
+    return 2 * sum;
+}
+
 void print_number(unsigned long long n)
 {
     if (n >= 1000) {

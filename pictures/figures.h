@@ -1,5 +1,5 @@
 /* What the programs that print figures of an image share: the image from standard input, calls that must be accepted, the squared distance of two
-   images, and numbers for a table. */
+   images, the total variation, and numbers for a table. */
 #ifndef FIGURES_H
 #define FIGURES_H
 
@@ -19,6 +19,9 @@ void accepted(const char *call, uint32_t refusal);
 void take_image(uint16_t *samples, size_t *height, size_t *width);
 
 unsigned long long squared_distance(const uint16_t *a, const uint16_t *b, size_t n);
+
+/* The total variation: the absolute differences of each value to its neighbours above, below, left and right, all added up. Each pair counts twice. */
+unsigned long long total_variation(const int64_t *values, size_t height, size_t width);
 
 /* Prints a number with a comma before each three digits. */
 void print_number(unsigned long long n);

@@ -180,3 +180,32 @@ int png_write(FILE *out, const uint8_t *grey, uint32_t width, uint32_t height)
     free(rows);
     return fflush(out) == 0 && !ferror(out);
 }
+
+int png_panels(FILE *out, const uint16_t *const *images, size_t count, size_t height, size_t width)
+{
+    const uint16_t *first = images[0];
+    unsigned dark = 4095, bright = 0;
+    for (size_t i = 0; i < height * width; i++) {
+        dark = first[i] < dark ? first[i] : dark;
+        bright = first[i] > bright ? first[i] : bright;
+    }
+    unsigned span = bright > dark ? bright - dark : 1;
+    size_t gap = 8, columns = count * (width + gap) - gap, rows = 2 * height + gap;
+    size_t part_x = width * 3 / 16, part_y = height / 2; /* the part that is shown large */
+    uint8_t *grey = malloc(columns * rows);
+    if (grey == NULL)
+        return 0;
+    memset(grey, 255, columns * rows);
+    for (size_t k = 0; k < count; k++)
+        for (size_t y = 0; y < height; y++)
+            for (size_t x = 0; x < width; x++)
+                for (int big = 0; big < 2; big++) {
+                    size_t sx = big ? part_x + x / 4 : x, sy = big ? part_y + y / 4 : y;
+                    unsigned v = images[k][sx * height + sy];
+                    v = v < dark ? dark : v > bright ? bright : v;
+                    grey[(y + (big ? height + gap : 0)) * columns + k * (width + gap) + x] = (uint8_t)((v - dark) * 255 / span);
+                }
+    int good = png_write(out, grey, (uint32_t)columns, (uint32_t)rows);
+    free(grey);
+    return good;
+}

@@ -29,4 +29,8 @@ int pgm_write(FILE *out, const uint16_t *samples, size_t height, size_t width, u
 /* Writes 8-bit grey values, stored along rows, as a PNG file. */
 int png_write(FILE *out, const uint8_t *grey, uint32_t width, uint32_t height);
 
+/* Writes images of one size side by side as a PNG file, and below each a part of it four times as large. All use the whole range of the first one's samples.
+   Height and width are from 64 on. */
+int png_panels(FILE *out, const uint16_t *const *images, size_t count, size_t height, size_t width);
+
 #endif

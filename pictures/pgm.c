@@ -1,8 +1,9 @@
-/* Images in PGM files to sheets and back, windows of sheets, two sheets joined, and test images.
+/* Images in PGM files to sheets and back, windows of sheets, sheets smoothed, two sheets joined, and test images.
 
    pgm to-sheet LEVELS QUOTA <in.pgm >out.sheet    P2 or P5, maxval up to 4095, of a height and a width that the library accepts
    pgm to-pgm [MAXVAL]       <in.sheet >out.pgm    P5; MAXVAL, 4095 where it is not given, is that of the original
    pgm window TOP LEFT HEIGHT WIDTH [MAXVAL] <in.sheet >out.pgm    P5: the window alone, which is what to-pgm gives there
+   pgm smooth STEP [MAXVAL]  <in.sheet >out.pgm    P5: the image after one smoothing step, 0 to 255; 0 gives what to-pgm gives
    pgm join LEFT RIGHT       >out.sheet            the sheets of two neighbouring strips; LEFT and RIGHT are file names
    pgm columns FIRST COUNT   <in.pgm >out.pgm      a strip of an image up to 512 by 512: COUNT columns from FIRST on, which is 0 for the leftmost
    pgm test-image HEIGHT WIDTH START >out.pgm      P5, maxval 4095; START is 0 to 4294967295
@@ -10,8 +11,9 @@
    A refusal is printed as the cutter prints it: `refusal`, then the number, and the exit status is 1. A file that is no PGM file is 9;
    a maxval over 4095 is 4. Their order is that of the cutter: 9 on the header, 1, 2, 9 on all that follows, 4, 7. To join, first the left
    sheet is read, then the right one, each with the refusals of a sheet; then come those of joining. A window that has no cell or reaches past the
-   image is 17, after those of a sheet. */
+   image is 17, and a step over 255 is 19, both after those of a sheet. */
 #include "image.h"
+#include "smoothed.h"
 #include "tetrolet.h"
 
 #include <stdlib.h>
@@ -29,6 +31,7 @@ static int use(void)
 {
     fprintf(stderr, "use: pgm to-sheet LEVELS QUOTA <in.pgm >out.sheet\n     pgm to-pgm [MAXVAL] <in.sheet >out.pgm\n"
                     "     pgm window TOP LEFT HEIGHT WIDTH [MAXVAL] <in.sheet >out.pgm\n"
+                    "     pgm smooth STEP [MAXVAL] <in.sheet >out.pgm\n"
                     "     pgm join LEFT RIGHT >out.sheet\n     pgm columns FIRST COUNT <in.pgm >out.pgm\n"
                     "     pgm test-image HEIGHT WIDTH START >out.pgm\n");
     return 2;
@@ -181,6 +184,20 @@ static int window(size_t top, size_t left, size_t height, size_t width, unsigned
     return 0;
 }
 
+static int smooth(uint64_t step, unsigned maxval)
+{
+    struct strip *s = &strip;
+    uint32_t n = take_sheet(stdin, s);
+    if (n == 0)
+        n = tetrolet_smooth(s->height, s->width, s->levels, s->plane, s->area, s->coverings, s->blocks, step, numerators, s->area, scratch, s->area);
+    if (n != 0)
+        return refuse(n);
+    smoothed_samples(numerators, s->area, s->levels, samples);
+    if (!pgm_write(stdout, samples, s->height, s->width, maxval))
+        return fail("cannot write");
+    return 0;
+}
+
 /* Where the joined width is over 512 the joined strip has no room, and the library says why. */
 static int join(const char *left_name, const char *right_name)
 {
@@ -244,6 +261,8 @@ int main(int argc, char **argv)
     if ((argc == 6 || argc == 7) && !strcmp(argv[1], "window") && argument(argv[2], &a) && argument(argv[3], &b) && argument(argv[4], &c)
         && argument(argv[5], &d) && (argc == 6 || argument(argv[6], &e)) && e >= 1 && e <= 4095)
         return window(a, b, c, d, (unsigned)e);
+    if ((argc == 3 || argc == 4) && !strcmp(argv[1], "smooth") && argument(argv[2], &a) && (argc == 3 || argument(argv[3], &e)) && e >= 1 && e <= 4095)
+        return smooth(a, (unsigned)e);
     if (argc == 4 && !strcmp(argv[1], "join"))
         return join(argv[2], argv[3]);
     if (argc == 4 && !strcmp(argv[1], "columns") && argument(argv[2], &a) && argument(argv[3], &b))

@@ -1,6 +1,6 @@
 #!/usr/bin/env bash
-# Builds the picture programs; makes the synthetic veneer and the picture of what a quota leaves of it, and compares both with those
-# kept here; turns the veneer, and two strips of it, into a sheet and back; cuts windows out of its sheet; makes a test image from a number, the one that every site has;
+# Builds the picture programs; makes the synthetic veneer and the pictures of what a quota leaves of it and of a smoothing step, and compares them with
+# those kept here; turns the veneer, and two strips of it, into a sheet and back; cuts windows out of its sheet; smooths its sheet; makes a test image from a number, the one that every site has;
 # prints what a tolerance and a list of coverings do to the veneer and to the test image; joins the sheets of the veneer's halves.
 # Needs a C compiler. With --built the library is taken as it stands.
 set -eu
@@ -36,6 +36,16 @@ for at in '48 31' '79 33'; do
     target/pictures/pgm columns $((left - 48)) $wide <target/pictures/window.pgm | cmp - <(target/pictures/pgm window 128 $left 64 $wide <target/pictures/veneer.sheet)
 done
 echo "target/pictures/window.pgm: 64 by 64 of it, restored alone; windows are what the whole sheet restores to at the same places"
+
+# One smoothing step of the kept sheet: none of it is what to-pgm gives.
+cc $flags pictures/smooth.c pictures/figures.c pictures/image.c "$archive" -o target/pictures/smooth
+target/pictures/smooth $levels $quota 255 <pictures/veneer.pgm >target/pictures/smooth.png
+cmp target/pictures/smooth.png pictures/smooth.png
+target/pictures/pgm smooth 0 <target/pictures/veneer.sheet | cmp - target/pictures/kept.pgm
+target/pictures/pgm smooth 255 <target/pictures/veneer.sheet >target/pictures/smooth.pgm
+echo "target/pictures/smooth.pgm: it after a smoothing step of 255"
+echo "a smoothing step: the veneer with $levels levels, quota $quota"
+target/pictures/smooth $levels $quota <pictures/veneer.pgm
 
 target/pictures/pgm to-sheet $levels $whole <pictures/veneer.pgm | target/pictures/pgm to-pgm | cmp - pictures/veneer.pgm
 echo "the whole quota, $whole, gives the picture back"
