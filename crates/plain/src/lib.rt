@@ -5,13 +5,14 @@
 // 1,024; every height and width is taken.
 //
 // The entries: `tiles::list_words` and, lent its words, `tiles::pieces`, `pyramid::decompose`, `pyramid::decompose_within`, `pyramid::decompose_listed`,
-// `pyramid::restore`, `pyramid::restore_listed` and `windows::window`; `cut::keep` and `cut::cut`; `strips::join`; `generated::test_image`. A refusal is its
+// `pyramid::restore`, `pyramid::restore_listed`, `windows::window` and `smoothing::smooth`; `cut::keep` and `cut::cut`; `strips::join`; `generated::test_image`. A refusal is its
 // number, and 0 stands for accepted; `cut` answers with an `Outcome`, which has a count beside it. Texts are in `plain_text`, the cutter in `plain_cutter`.
 mod block;
 mod choice;
 pub mod cut;
 pub mod generated;
 pub mod pyramid;
+pub mod smoothing;
 pub mod strips;
 pub mod tiles;
 pub mod windows;

@@ -38,7 +38,7 @@ use plain_frame::safe::times;
 use plain_frame::safe::value_at;
 
 // Copies the upper left part that a level is about, the whole plane for level 1.
-fn copy_image(from: &[i64], to: &mut [i64], extent: Extent, level: usize) {
+pub fn copy_image(from: &[i64], to: &mut [i64], extent: Extent, level: usize) {
     let n = band_of(extent, minus(level, 1));
     let end = area(n);
     let mut i: usize = 0;
@@ -83,7 +83,7 @@ fn put_at(plane: &mut [i64], height: usize, row: usize, col: usize, v: i64) {
     put_value(plane, plus(times(col, height), row), v);
 }
 
-fn get_at(plane: &[i64], height: usize, row: usize, col: usize) -> i64 {
+pub fn get_at(plane: &[i64], height: usize, row: usize, col: usize) -> i64 {
     value_at(plane, plus(times(col, height), row))
 }
 
@@ -156,32 +156,60 @@ fn split_pieces(
     }
 }
 
-fn split_block(
+// Chooses the covering of a block, which stands in the image.
+fn choose_block(
     words: &[u8],
     list: &[u8],
     rule: Rule,
     image: &[i64],
-    plane: &mut [i64],
     coverings: &mut [u8],
     extent: Extent,
     level: usize,
     n: usize,
 ) {
-    let p = block_in_level(extent, level, n);
     let now = plus(blocks_before(extent, level), n);
-    let at = corner(extent.height, p);
+    let at = corner(extent.height, block_in_level(extent, level, n));
     let covering = choose_by(words, list, rule, image, at, coverings, now, level);
     put_byte(coverings, now, covering);
-    split_pieces(words, covering, image, plane, extent, p);
 }
 
-fn split_level(
+fn choose_level(
     words: &[u8],
     list: &[u8],
     rule: Rule,
+    image: &[i64],
+    coverings: &mut [u8],
+    extent: Extent,
+    level: usize,
+) {
+    let blocks = level_blocks(extent, level);
+    let mut n: usize = 0;
+    while n < blocks {
+        choose_block(words, list, rule, image, coverings, extent, level, n);
+        n += 1;
+    }
+}
+
+fn split_block(
+    words: &[u8],
+    coverings: &[u8],
+    image: &[i64],
+    plane: &mut [i64],
+    extent: Extent,
+    level: usize,
+    n: usize,
+) {
+    let covering = byte_at(coverings, plus(blocks_before(extent, level), n));
+    let p = block_in_level(extent, level, n);
+    split_pieces(words, covering, image, plane, extent, p);
+}
+
+// Decomposes a level by its coverings.
+fn split_level(
+    words: &[u8],
+    coverings: &[u8],
     plane: &mut [i64],
     scratch: &mut [i64],
-    coverings: &mut [u8],
     extent: Extent,
     level: usize,
 ) {
@@ -189,21 +217,12 @@ fn split_level(
     let blocks = level_blocks(extent, level);
     let mut n: usize = 0;
     while n < blocks {
-        split_block(
-            words,
-            list,
-            rule,
-            scratch,
-            plane,
-            coverings,
-            extent,
-            level,
-            n,
-        );
+        split_block(words, coverings, scratch, plane, extent, level, n);
         n += 1;
     }
 }
 
+// Decomposes what stands in the plane: of each level the coverings are chosen first.
 fn split(
     words: &[u8],
     list: &[u8],
@@ -217,7 +236,25 @@ fn split(
     let mut level: usize = 0;
     while level < levels {
         level += 1;
-        split_level(words, list, rule, plane, scratch, coverings, extent, level);
+        choose_level(words, list, rule, plane, coverings, extent, level);
+        split_level(words, coverings, plane, scratch, extent, level);
+    }
+    clear(scratch);
+}
+
+// Decomposes what stands in the plane by given coverings.
+pub fn split_by(
+    words: &[u8],
+    coverings: &[u8],
+    plane: &mut [i64],
+    scratch: &mut [i64],
+    extent: Extent,
+    levels: usize,
+) {
+    let mut level: usize = 0;
+    while level < levels {
+        level += 1;
+        split_level(words, coverings, plane, scratch, extent, level);
     }
     clear(scratch);
 }
@@ -425,7 +462,7 @@ pub fn decompose_listed(
 }
 
 // v times 4^n.
-fn weighted(v: i64, n: usize) -> i64 {
+pub fn weighted(v: i64, n: usize) -> i64 {
     let mut sum = v;
     let mut i: usize = 0;
     while i < n {
@@ -609,6 +646,20 @@ fn restore_lengths(
     0
 }
 
+// The numerators of a plane.
+pub fn put_numerators(
+    words: &[u8],
+    extent: Extent,
+    levels: usize,
+    plane: &[i64],
+    coverings: &[u8],
+    scratch: &mut [i64],
+    numerators: &mut [i64],
+) {
+    copy_image(plane, numerators, extent, 1);
+    join(words, coverings, numerators, scratch, extent, levels);
+}
+
 // The numerators and the samples of a plane.
 fn restore_all(
     words: &[u8],
@@ -620,8 +671,7 @@ fn restore_all(
     numerators: &mut [i64],
     samples: &mut [u16],
 ) {
-    copy_image(plane, numerators, extent, 1);
-    join(words, coverings, numerators, scratch, extent, levels);
+    put_numerators(words, extent, levels, plane, coverings, scratch, numerators);
     round_all(numerators, samples, levels);
 }
 

@@ -184,6 +184,38 @@ pub extern "C" fn plain_window(
     )
 }
 
+// The last three slices are room: of each the front part, as long as the picture, is used.
+#[no_mangle]
+pub extern "C" fn plain_smooth(
+    words: &[u8],
+    height: usize,
+    width: usize,
+    levels: usize,
+    plane: &[i64],
+    coverings: &[u8],
+    step: u64,
+    result: &mut [i64],
+    scratch: &mut [i64],
+    gradient: &mut [i64],
+    decomposed: &mut [i64],
+    projected: &mut [i64],
+) -> u32 {
+    plain::smoothing::smooth(
+        words,
+        height,
+        width,
+        levels,
+        plane,
+        coverings,
+        step,
+        result,
+        scratch,
+        gradient,
+        decomposed,
+        projected,
+    )
+}
+
 #[no_mangle]
 pub extern "C" fn plain_keep(
     height: usize,

@@ -272,7 +272,7 @@ pub fn block_number(extent: Extent, p: Spot) -> usize {
 }
 
 // The largest size of an entry of the band.
-fn reach(level: usize, band: usize) -> usize {
+pub fn reach(level: usize, band: usize) -> usize {
     if band == 0 {
         times(4095, power(times(2, level)))
     } else {

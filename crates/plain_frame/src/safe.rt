@@ -66,7 +66,7 @@ pub fn put_value(s: &mut [i64], i: usize, v: i64) {
     }
 }
 
-// Numbers of accepted work, and those of ten digits, stay below 2^34.
+// Numbers of accepted work, and those of ten digits, stay below 2^36.
 pub fn add(a: i64, b: i64) -> i64 {
     if a < -1099511627776 {
         return 0;

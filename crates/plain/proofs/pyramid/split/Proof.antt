@@ -18,6 +18,9 @@ loop-holds c = search needs
 add-level : tie.Need-add-level Inv-loop μ-loop
 add-level c = search needs
 
+choose-level-requires : tie.Need-choose-level-requires Inv-loop μ-loop
+choose-level-requires c κs = tt
+
 split-level-requires : tie.Need-split-level-requires Inv-loop μ-loop
 split-level-requires c κs = tt
 
@@ -50,6 +53,7 @@ split-spec =
     μ-loop
     loop-holds
     add-level
+    choose-level-requires
     split-level-requires
     loop-less
     loop-again

@@ -7,10 +7,10 @@ use Rattle.plain.proofs.pyramid.split_level.Statement.{statement}
 use Rattle.plain.proofs.pyramid.split_level.Tie as tie
 
 abbrev Inv-loop : tie.InvT-loop
-Inv-loop words list rule plane₀ scratch coverings₀ extent level blocks n₀ plane coverings n = (length plane ≡ length plane₀) × (length coverings ≡ length coverings₀)
+Inv-loop words coverings plane₀ scratch extent level blocks n₀ plane n = length plane ≡ length plane₀
 
 abbrev μ-loop : tie.MeasureT-loop
-μ-loop words list rule plane₀ scratch coverings₀ extent level blocks n₀ plane coverings n = blocks - n
+μ-loop words coverings plane₀ scratch extent level blocks n₀ plane n = blocks - n
 
 copy-image-requires : tie.Need-copy-image-requires Inv-loop μ-loop
 copy-image-requires c κs = tt
@@ -39,9 +39,6 @@ same-length c = search needs
 same-length-2 : tie.Need-same-length-2 Inv-loop μ-loop
 same-length-2 c = search needs
 
-same-length-3 : tie.Need-same-length-3 Inv-loop μ-loop
-same-length-3 c = search needs
-
 returns : tie.Need-returns Inv-loop μ-loop
 returns c = search needs
 
@@ -60,5 +57,4 @@ split-level-spec =
     loop-again
     same-length
     same-length-2
-    same-length-3
     returns)
