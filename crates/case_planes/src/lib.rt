@@ -1,5 +1,5 @@
-// The planes of the cases that the programs `vectors` and `vectors_text` compare on: the coder's planes of pictures, and planes of any values. It is
-// proved to be safe and to end, and nothing more.
+// The planes of the cases that the programs `vectors`, `vectors_smooth` and `vectors_text` compare on: the coder's planes of pictures, kept and cut too, and
+// planes of any values. It is proved to be safe and to end, and nothing more.
 use cases::inputs::Case;
 use cases::inputs::fill_coverings;
 use cases::inputs::fill_picture;
@@ -54,6 +54,36 @@ pub fn fill(k: Case, plane: &mut [i64], coverings: &mut [u8]) {
     } else {
         fill_plane(k, plane);
         fill_coverings(k, coverings);
+    }
+}
+
+// Keeps the largest of a plane, cuts it, puts 0 everywhere, or leaves it as it is.
+fn cut(k: Case, plane: &mut [i64]) {
+    let which = k.seed / 4 % 8;
+    match which {
+        0 => {
+            keeping::keep(k.height, k.width, k.levels, plane, 0);
+        }
+        1 => {
+            keeping::keep(k.height, k.width, k.levels, plane, 5);
+        }
+        2 => {
+            keeping::threshold(k.height, k.width, k.levels, plane, 7);
+        }
+        3 => {
+            keeping::threshold(k.height, k.width, k.levels, plane, 900);
+        }
+        4 => plain_frame::safe::clear(plane),
+        _ => {}
+    }
+}
+
+// The same with the plane kept, cut, or left as it is, by the seed.
+pub fn fill_cut(k: Case, plane: &mut [i64], coverings: &mut [u8]) {
+    let n = k.n;
+    fill(k, plane, coverings);
+    if n <= plane.len() {
+        cut(k, &mut plane[..n]);
     }
 }
 

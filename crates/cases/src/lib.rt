@@ -1,9 +1,10 @@
-// What the programs `vectors` and `vectors_text` share: the generated inputs, how two answers to a case are compared, and how a group is counted and
+// What the programs `vectors`, `vectors_smooth` and `vectors_text` share: the generated inputs, how two answers to a case are compared, and how a group is counted and
 // told. It is proved to be safe and to end, and nothing more.
 pub mod answers;
 pub mod inputs;
 pub mod lists;
 pub mod safe;
+pub mod smoothings;
 pub mod strips;
 pub mod tally;
 pub mod windows;

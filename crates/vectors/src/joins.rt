@@ -1,6 +1,7 @@
 // Two strips, joined by the coder and by the plain second implementation: planes of pictures, whole, kept and cut by a threshold, and planes of any values; and
 // small strips with flaws.
 use case_planes::fill;
+use case_planes::fill_cut;
 use cases::inputs::Case;
 use cases::strips::Join;
 use cases::strips::flawed;
@@ -158,43 +159,13 @@ fn compare(
     judged(a, b, p && c && k)
 }
 
-// Keeps the largest of a plane, cuts it, puts 0 everywhere, or leaves it as it is.
-fn cut(k: Case, plane: &mut [i64]) {
-    let which = k.seed / 4 % 8;
-    match which {
-        0 => {
-            keeping::keep(k.height, k.width, k.levels, plane, 0);
-        }
-        1 => {
-            keeping::keep(k.height, k.width, k.levels, plane, 5);
-        }
-        2 => {
-            keeping::threshold(k.height, k.width, k.levels, plane, 7);
-        }
-        3 => {
-            keeping::threshold(k.height, k.width, k.levels, plane, 900);
-        }
-        4 => plain_frame::safe::clear(plane),
-        _ => {}
-    }
-}
-
-// The plane and the coverings of a strip.
-pub fn fill_strip(k: Case, plane: &mut [i64], coverings: &mut [u8]) {
-    let n = k.n;
-    fill(k, plane, coverings);
-    if n <= plane.len() {
-        cut(k, &mut plane[..n]);
-    }
-}
-
 fn one_join(j: Join) -> Verdict {
     let mut left_plane = [0i64; 1024];
     let mut left_coverings = [1u8; 512];
     let mut right_plane = left_plane;
     let mut right_coverings = left_coverings;
-    fill_strip(j.left, &mut left_plane, &mut left_coverings);
-    fill_strip(j.right, &mut right_plane, &mut right_coverings);
+    fill_cut(j.left, &mut left_plane, &mut left_coverings);
+    fill_cut(j.right, &mut right_plane, &mut right_coverings);
     compare(
         j,
         &left_plane,

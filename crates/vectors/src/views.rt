@@ -1,6 +1,6 @@
 // Windows of pictures, restored by the viewer and by the plain second implementation: of planes of pictures, whole, kept and cut by a threshold, and of planes of
 // any values; and windows of small pictures with flaws.
-use crate::joins::fill_strip;
+use case_planes::fill_cut;
 use case_planes::sparse_case_at;
 use cases::inputs::Case;
 use cases::inputs::smaller;
@@ -131,7 +131,7 @@ fn compare(words: &[u8], w: Window, plane: &[i64], coverings: &[u8]) -> Verdict 
 fn one_window(words: &[u8], k: Case, w: Window, flaw: usize, flaw2: usize) -> Verdict {
     let mut plane = [0i64; 1025];
     let mut coverings = [1u8; 513];
-    fill_strip(k, &mut plane, &mut coverings);
+    fill_cut(k, &mut plane, &mut coverings);
     spoil(k, flaw, &mut plane, &mut coverings);
     spoil(k, flaw2, &mut plane, &mut coverings);
     compare(words, w, &plane, &coverings)

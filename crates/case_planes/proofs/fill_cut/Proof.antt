@@ -1,10 +1,10 @@
--- `vectors::joins::fill_strip` is safe and ends. Assumes nothing.
+-- `case_planes::fill_cut` is safe and ends. Assumes nothing.
 use mathlib.Core.Path.{sym}
 use native.Mathlib.Omega.{arith}
 use lib.Seq.{length-take-le}
 use borrow.Author.Needs.{needs}
-use Rattle.vectors.proofs.joins.fill_strip.Statement.{statement}
-use Rattle.vectors.proofs.joins.fill_strip.Tie as tie
+use Rattle.case_planes.proofs.fill_cut.Statement.{statement}
+use Rattle.case_planes.proofs.fill_cut.Tie as tie
 
 fill-requires : tie.Need-fill-requires
 fill-requires c κs = search needs
@@ -36,8 +36,8 @@ same-length-4 c = search needs
 returns-2 : tie.Need-returns-2
 returns-2 c = search needs
 
-pub fill-strip-spec : {M : Type 1} → statement M
-fill-strip-spec =
+pub fill-cut-spec : {M : Type 1} → statement M
+fill-cut-spec =
     tie.close
     (tie.spec
     fill-requires
