@@ -1,6 +1,7 @@
 // The limits of heights, widths, levels and the lengths of slices, each with what lies past it.
 use crate::pictures;
 use crate::pictures::Picture;
+use crate::smoothed;
 use pairs::answers::end;
 use pairs::answers::put;
 use pairs::answers::tell;
@@ -21,7 +22,8 @@ fn put_frame(k: Plane) {
 // Every entry that is lent a plane.
 fn tell_plane(before: bool, words: &[u8], k: Plane) -> bool {
     let r = tell(before, b"restore", planes::restore(words, k));
-    let q = tell(r, b"keep", planes::keep(k, 1));
+    let s = tell(r, b"smooth", smoothed::smooth(words, k, 1));
+    let q = tell(s, b"keep", planes::keep(k, 1));
     let t = tell(q, b"threshold", planes::threshold(k, 1));
     tell(t, b"write", planes::write(k, 256))
 }

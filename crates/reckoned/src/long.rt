@@ -10,6 +10,7 @@ use pairs::answers::end;
 use pairs::answers::numbered;
 use pairs::answers::put;
 use pairs::answers::tell;
+use pairs::answers::tell_one;
 
 fn picture(height: usize, width: usize) -> [u16; 2048] {
     let mut samples = [0u16; 2048];
@@ -111,6 +112,47 @@ fn write(height: usize, width: usize, plane: &[i64], coverings: &[u8]) -> Pair {
     }
 }
 
+fn smooth(words: &[u8], height: usize, width: usize, plane: &[i64], coverings: &[u8]) -> Pair {
+    let mut result = [7i64; 2048];
+    let mut result2 = result;
+    let mut scratch = result;
+    let mut scratch2 = result;
+    let mut gradient = result;
+    let mut decomposed = result;
+    let mut projected = result;
+    let x = refusals::code(smoothing::smooth(
+        height,
+        width,
+        1,
+        plane,
+        coverings,
+        255,
+        &mut result,
+        &mut scratch,
+    ));
+    let y = plain::smoothing::smooth(
+        words,
+        height,
+        width,
+        1,
+        plane,
+        coverings,
+        255,
+        &mut result2,
+        &mut scratch2,
+        &mut gradient,
+        &mut decomposed,
+        &mut projected,
+    );
+    let r = same_values(&result, &result2);
+    let s = same_values(&scratch, &scratch2);
+    Pair {
+        coder: numbered(x),
+        plain: numbered(y),
+        same: r && s,
+    }
+}
+
 fn strip(words: &[u8], height: usize, width: usize) {
     put(b"height ", height as u64);
     put(b"width ", width as u64);
@@ -130,4 +172,22 @@ fn strip(words: &[u8], height: usize, width: usize) {
 pub fn strips(words: &[u8]) {
     strip(words, 4, 512);
     strip(words, 512, 4);
+}
+
+// The largest step, of a picture of which 100 entries were kept.
+fn step(words: &[u8], height: usize, width: usize) {
+    put(b"height ", height as u64);
+    put(b"width ", width as u64);
+    put(b"kept ", 100);
+    put(b"step ", 255);
+    let mut plane = [0i64; 2048];
+    let mut coverings = [0u8; 128];
+    fill(height, width, &mut plane, &mut coverings);
+    keeping::keep(height, width, 1, &mut plane, 100);
+    tell_one(b"smooth", smooth(words, height, width, &plane, &coverings));
+}
+
+pub fn steps(words: &[u8]) {
+    step(words, 4, 512);
+    step(words, 512, 4);
 }

@@ -1,6 +1,6 @@
 // Runs the entries beside the plain second implementation, which shares nothing with them: first the examples of document 01's "Reckoned by hand" that
-// are not in the proved table, a usage list, a tie, a test image, tolerances and lists of coverings, then both sides of every limit of its table of refusals,
-// by number. A line has what was asked, for each entry its name, the number of its answer and that of the second implementation, 0 where the call is accepted,
+// are not in the proved table, a usage list, a tie, a test image, tolerances, lists of coverings and a smoothing step, then both sides of every limit of its
+// table of refusals, by number. A line has what was asked, for each entry its name, the number of its answer and that of the second implementation, 0 where the call is accepted,
 // and whether the two agree in all that they answer and leave in the slices. What is proved says that code and definition have the same limits; the stored
 // output of this program says which. Texts that are read are the part of `reckoned_text`, and joined strips that of `reckoned_joins`.
 use pairs::answers::heading;
@@ -12,6 +12,7 @@ mod listed;
 mod lists;
 mod long;
 mod pictures;
+mod smoothed;
 mod tolerances;
 mod values;
 
@@ -32,6 +33,7 @@ fn examples(words: &[u8]) {
     generated::first();
     tolerances::steps(words);
     listed::steps(words);
+    smoothed::example(words);
 }
 
 fn frame(words: &[u8]) {
@@ -55,6 +57,7 @@ fn lengths(words: &[u8]) {
     lists::places(words);
     lists::usage_lengths();
     generated::lengths();
+    smoothed::lengths(words);
 }
 
 fn contents(words: &[u8]) {
@@ -94,6 +97,9 @@ fn limits(words: &[u8]) {
     listed::restoring(words);
     heading(b"18 unlisted");
     listed::missing(words);
+    heading(b"19 step");
+    smoothed::limits(words);
+    long::steps(words);
 }
 
 fn main() {
