@@ -2,11 +2,12 @@
 use mathlib.Core.Path.{_≡_, refl, sym, ap, _∙_, subst⁻¹}
 use mathlib.Core.Bool.{Bool, true, false, not, _&&_}
 use mathlib.Core.List.{List, map}
-use Prim.Native.Nat.{ℕ, _*_, _/_, _%_, _<_, _≤_}
+use Prim.Native.Nat.{ℕ, zero, suc, _*_, _/_, _%_, _<_, _≤_}
+use native.Mathlib.Omega.{arith}
 use borrow.Author.Tests.{eqb-true, ltb-false, le-ltb}
 use lib.Dec.{T, ltb}
 use lib.IntN.{ℤ, pos, _*ℤ_}
-use lib.ListN.{length}
+use lib.ListN.{length, getD, length-replicate, getD-replicate}
 use Rattle.refusals.specs.Refusal.{numberOf, refuseIf}
 use Rattle.refusals.specs.declared.Refusal.{Refusal}
 use Rattle.refusals.proofs.After.{unchanged, past, within}
@@ -139,11 +140,20 @@ times-slice h w c A = sym (map-tabulate (λ (z : ℤ). c *ℤ z) (w * h) (λ k. 
 unmoved-slice : (R h w : ℕ) (cs : List ℕ) (plane : List ℤ) → smoothedOf R h w cs 0 plane ≡ map (λ (z : ℤ). pos 16 *ℤ z) (numeratorsOf R h w cs plane)
 unmoved-slice R h w cs plane = ap (sliceOf h w) (λ i y x. unmoved R h w (listed cs) 0 (imageOf h plane) refl y x i) ∙ times-slice h w (pos 16) (numerators R h w (listed cs) (imageOf h plane))
 
+empty : (s : Strip) (p : ℕ) (result result′ scratch scratch′ : List ℤ) → Smoothed s p result result′ scratch scratch′ 0 → Exact s scratch′ × ((k : ℕ) → k < s .width * s .height → getD scratch′ k (pos 1) ≡ pos 0)
+empty s p result result′ scratch scratch′ d = (ap length (d .zeros) ∙ length-replicate (s .width * s .height) (pos 0), λ k l. ap (λ (z : List ℤ). getD z k (pos 1)) (d .zeros) ∙ getD-replicate (s .width * s .height) k (pos 0) (pos 1) l)
+
+as-before : (s : Strip) (p : ℕ) (result result′ scratch scratch′ : List ℤ) (n : ℕ) → 0 < n → Smoothed s p result result′ scratch scratch′ n → (result′ ≡ result) × (scratch′ ≡ scratch)
+as-before s p result result′ scratch scratch′ zero l d = absurd (omega arith)
+as-before s p result result′ scratch scratch′ (suc n) l d = (d .values, d .zeros)
+
 pub laws : SmoothingLaws
 laws = record {
   checks = checks;
   alike = alike;
   left = left;
+  empty = empty;
+  unchanged = as-before;
   still = λ s result result′ scratch scratch′ numerators numerators′ zeros zeros′ samples samples′ d e.
       d .values ∙ unmoved-slice (s .levels) (s .height) (s .width) (s .coverings) (s .plane) ∙ ap (map (λ (z : ℤ). pos 16 *ℤ z)) (sym (e .values));
 }

@@ -3,7 +3,7 @@ use mathlib.Core.Path.{_≡_}
 use mathlib.Core.List.{List, map}
 use Prim.Native.Nat.{ℕ, _*_, _<_, _≤_}
 use lib.IntN.{ℤ, pos, _*ℤ_}
-use lib.ListN.{length}
+use lib.ListN.{length, getD}
 use Rattle.pyramid.specs.Plane.{listed}
 use Rattle.pyramid.specs.Slices.{imageOf}
 use Rattle.strips.specs.Strip.{Strip, Sided, Deep, Framed, Numbered, Ranged, Passes}
@@ -36,6 +36,9 @@ pub record SmoothingLaws : Type 0 where
   -- what an accepted call left in the result, decomposed by the same coverings, shows what the wish asks, and the rest of the step's laws hold of it
   pub left : (s : Strip) (p : ℕ) (result result′ scratch scratch′ : List ℤ) → Smoothed s p result result′ scratch scratch′ 0
       → SmoothLaws (s .levels) (s .height) (s .width) (listed (s .coverings)) p (imageOf (s .height) (s .plane)) (imageOf (s .height) result′)
+  -- and the scratch at zeros, entry by entry; a refused call leaves both as they were
+  pub empty : (s : Strip) (p : ℕ) (result result′ scratch scratch′ : List ℤ) → Smoothed s p result result′ scratch scratch′ 0 → Exact s scratch′ × ((k : ℕ) → k < s .width * s .height → getD scratch′ k (pos 1) ≡ pos 0)
+  pub unchanged : (s : Strip) (p : ℕ) (result result′ scratch scratch′ : List ℤ) (n : ℕ) → 0 < n → Smoothed s p result result′ scratch scratch′ n → (result′ ≡ result) × (scratch′ ≡ scratch)
   -- the step 0 leaves 16 times the numerators that an accepted restoring of the same plane left
   pub still : (s : Strip) (result result′ scratch scratch′ numerators numerators′ zeros zeros′ : List ℤ) (samples samples′ : List ℕ)
       → Smoothed s 0 result result′ scratch scratch′ 0
