@@ -1,6 +1,7 @@
 /* A caller in C: decomposes a small strip, first with a tolerance and then without, to show how many different coverings a mill needs; keeps the best
-   coefficients, writes the sheet, reads it back and restores it; looks at a window of it, which is restored alone; smooths it by one step; does the same
-   with a list of sixteen coverings, to show how much farther the picture is then. Then the strip as two halves, each decomposed and cut by itself, as a wide leaf is scanned: joined, they restore to the two side by side.
+   coefficients, writes the sheet, reads it back and restores it; looks at a window of it, which is restored alone; smooths it by one step. Decomposes, keeps
+   and restores with a list of sixteen coverings, to show how much farther the picture is then. Then the strip as two halves, each decomposed and cut by
+   itself, as a wide leaf is scanned: joined, they restore to the two side by side.
    Then what an installer runs: a test image, made from a number, goes there and back. */
 #include "sixteen.h"
 #include "tetrolet.h"

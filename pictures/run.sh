@@ -37,7 +37,7 @@ for at in '48 31' '79 33'; do
 done
 echo "target/pictures/window.pgm: 64 by 64 of it, restored alone; windows are what the whole sheet restores to at the same places"
 
-# One smoothing step of the kept sheet: none of it is what to-pgm gives.
+# A smoothing step of the kept sheet; the step 0 is what to-pgm gives.
 cc $flags pictures/smooth.c pictures/figures.c pictures/image.c "$archive" -o target/pictures/smooth
 target/pictures/smooth $levels $quota 255 <pictures/veneer.pgm >target/pictures/smooth.png
 cmp target/pictures/smooth.png pictures/smooth.png

@@ -386,6 +386,7 @@ static uint8_t bad_covering(void)
     }
 }
 
+/* Now and then one such covering. */
 static void spoil_coverings(uint8_t *p, size_t n)
 {
     if (n > 0 && once_in(30))
@@ -516,7 +517,7 @@ static void fill_real(int64_t *p, uint8_t *coverings, struct frame f)
     free(scratch);
 }
 
-/* An entry that is out of range at most places, or at some. */
+/* An entry that is out of range, at most places or at some. */
 static int64_t bad_entry(void)
 {
     static const int64_t bad[] = { INT64_MIN, INT64_MAX, -1, INT64_MIN + 1, 8190, 8191, -8190, -8191, 16380, 16381, 32760, 32761, -32761, 268369920,
@@ -524,6 +525,7 @@ static int64_t bad_entry(void)
     return bad[below(sizeof bad / sizeof *bad)];
 }
 
+/* Now and then one such entry. */
 static void spoil_plane(int64_t *p, size_t n)
 {
     if (n > 0 && once_in(25))
@@ -1105,8 +1107,7 @@ static uint64_t make_step(void)
     }
 }
 
-/* A plane of few entries over a low-pass that is flat or not, so that many neighbours are alike: no other entry, small ones, or those that may be no
-   larger. */
+/* A low-pass that is flat or not, and few other entries, so that many neighbours are alike: none, small ones, or the largest. */
 static void fill_sparse(int64_t *p, size_t n, struct frame f)
 {
     uint64_t kind = below(3), flat = below(((uint64_t)4095 << 2 * f.made_levels) + 1), alike = below(3);
