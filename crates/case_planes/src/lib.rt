@@ -78,7 +78,7 @@ fn cut(k: Case, plane: &mut [i64]) {
     }
 }
 
-// The same with the plane kept, cut, or left as it is, by the seed.
+// The plane and the coverings of a case, the plane kept, cut, or left as it is, by the seed.
 pub fn fill_cut(k: Case, plane: &mut [i64], coverings: &mut [u8]) {
     let n = k.n;
     fill(k, plane, coverings);

@@ -3,7 +3,7 @@
 // and whether the two agree everywhere, in the answer and in all that stands in the slices after. `within` decomposes with a tolerance; `within 0` has the
 // coder with tolerance 0 beside the coder without one. `listed` and `restore listed` have a list of coverings; `listed 117` has the coder with all 117 listed
 // beside the coder without a list. `join` joins two strips, and counts by the left one; `window` restores a window of a picture. `join flaws` and `window flaws`
-// have calls of which most are refused. Texts and words are compared by `vectors_text`.
+// have calls of which most are refused. Texts and words are compared by `vectors_text`, the smoothing step by `vectors_smooth`.
 mod generated;
 mod joins;
 mod marks;
