@@ -38,10 +38,10 @@ fn cell_at(cells: &[u8; 1872], covering: u8, k: usize) -> usize
     cells[(n - 1) * 16 + k] as usize
 }
 
-// The low-pass sum and the tetrolet coefficients of the piece with a given label.
-fn piece(cells: &[u8; 1872], covering: u8, label: usize, v: [i64; 16]) -> Sums
-    requires { ⌜ (now cells ≡ cellTable) × Number covering × (label < 4) × Within (2 ^ 40) v ⌝ }
-    ensures { λ r. ⌜ Bands (λ b. forward (wordOf covering) (at v) b label) (r .low) (r .w1) (r .w2) (r .w3) ⌝ }
+// The low-pass sum and the tetrolet coefficients of the piece with a given label. The values are lent: handed over they would be copied for each piece.
+fn piece(cells: &[u8; 1872], covering: u8, label: usize, v: &[i64; 16]) -> Sums
+    requires { ⌜ (now cells ≡ cellTable) × Number covering × (label < 4) × Within (2 ^ 40) (now v) ⌝ }
+    ensures { λ r. ⌜ Bands (λ b. forward (wordOf covering) (at (now (v .entry))) b label) (r .low) (r .w1) (r .w2) (r .w3) ⌝ }
 {
     let a = cell_at(cells, covering, label * 4);
     let b = cell_at(cells, covering, label * 4 + 1);
@@ -56,10 +56,10 @@ pub fn forward(cells: &[u8; 1872], covering: u8, v: [i64; 16]) -> [i64; 16]
     requires { ⌜ (now cells ≡ cellTable) × Number covering × Within (2 ^ 40) v ⌝ }
     ensures { λ r. ⌜ r ≡ forwardOf covering v ⌝ }
 {
-    let a = piece(cells, covering, 0, v);
-    let b = piece(cells, covering, 1, v);
-    let c = piece(cells, covering, 2, v);
-    let d = piece(cells, covering, 3, v);
+    let a = piece(cells, covering, 0, &v);
+    let b = piece(cells, covering, 1, &v);
+    let c = piece(cells, covering, 2, &v);
+    let d = piece(cells, covering, 3, &v);
     [
         a.low,
         b.low,

@@ -3,6 +3,7 @@ use mathlib.Core.Path.{_≡_, refl, sym, ap, _∙_, subst⁻¹}
 use mathlib.Core.Bool.{Bool, true, false, not, _&&_}
 use mathlib.Core.List.{List, map}
 use Prim.Native.Nat.{ℕ, zero, suc, _*_, _/_, _%_, _<_, _≤_}
+use native.Mathlib.Nat.{one-le-pow}
 use native.Mathlib.Omega.{arith}
 use borrow.Author.Tests.{eqb-true, ltb-false, le-ltb}
 use lib.Dec.{T, ltb}
@@ -16,7 +17,8 @@ use Rattle.integers.proofs.Tabulate.{map-tabulate}
 use Rattle.integers.proofs.Tests.{is-true, is-false, true-at, both-true, two-hold, not-both, eq→eqb}
 use Rattle.pyramid.specs.Plane.{Image, numerators, listed}
 use Rattle.pyramid.specs.Slices.{imageOf, sliceOf, numeratorsOf}
-use Rattle.pyramid.specs.Sides.{isPlane, isCoverings}
+use Rattle.pyramid.specs.Sides.{isSides, isPlane, isCoverings}
+use Rattle.pyramid.proofs.Sides.{size-laws}
 use Rattle.strips.specs.Strip.{Strip, isSided, isDeep, isFramed, isNumbered, isRanged, Framed, Passes}
 use Rattle.strips.proofs.Passed.{framed-of, of-framed}
 use Rattle.places.specs.Sizes.{sizeRefusal}
@@ -29,6 +31,10 @@ use Rattle.variation.proofs.All as variation
 use Rattle.variation.proofs.Step.{unmoved}
 use Rattle.smoothing.specs.Entry.{smoothRefusal, Smoothed}
 use Rattle.smoothing.specs.Claims.{Exact, SmoothChecks, SmoothingLaws}
+
+-- a picture has a column
+one-column : (h w : ℕ) → isSides h w ≡ true → 1 ≤ w
+one-column h w e = let t = size-laws h w .sides .0 (truth e) .1 in subst⁻¹ (λ (n : ℕ). 1 ≤ n) (t .is) (one-le-pow (t .log) 2 (omega arith))
 
 -- ---- the number of each call
 
@@ -76,6 +82,7 @@ module _ (s : Strip) (p : ℕ) (result scratch : List ℤ) where
   -- ---- what is found where none refuses
   pub record Found : Type 0 where
     pub passes : Passes s
+    pub some : 1 ≤ s .width
     pub result-long : Exact s result
     pub scratch-long : Exact s scratch
     pub small : p ≤ 255
@@ -91,6 +98,7 @@ module _ (s : Strip) (p : ℕ) (result scratch : List ℤ) where
       let b = both-true (isPlane (s .height) (s .width) result) (isPlane (s .height) (s .width) scratch) (g .1) in
       record {
         passes = record { sides = truth (z .0 .sided); depth = truth (z .0 .deep); frame = of-framed s (g .0); numbers = truth (d .0); ranges = truth (r .0) };
+        some = one-column (s .height) (s .width) (z .0 .sided);
         result-long = eqb-true _ _ (b .0);
         scratch-long = eqb-true _ _ (b .1);
         small = ltb-false 255 p (l .0);

@@ -1,3 +1,4 @@
 pub mod Cells
 pub mod Gates
+pub mod Runs
 pub mod Steps

@@ -5,6 +5,7 @@ ghost use mathlib.Core.Path.{_≡_};
 ghost use mathlib.Core.Bool.{true, cond};
 ghost use mathlib.Core.List.{List};
 ghost use Prim.Native.Nat.{ℕ, _+_, _*_, _-_, _^_, _<_, _≤_};
+ghost use lib.Dec.{ltb};
 ghost use lib.IntN.{ℤ, pos, natAbs, _-ℤ_};
 ghost use lib.ListN.{length, getD, replicate};
 ghost use Rattle.refusals.specs.Refusal.{answerOf};
@@ -14,7 +15,7 @@ ghost use Rattle.pyramid.specs.Slices.{imageOf};
 ghost use Rattle.strips.specs.Strip.{stripOf};
 ghost use Rattle.synthesis.specs.Synthesis.{Restorable};
 ghost use Rattle.variation.specs.Smooth.{signOf, against, gradient, smoothedOf};
-ghost use Rattle.smoothing.specs.Mixed.{gradientOf, mixedEntry, mixedOf};
+ghost use Rattle.smoothing.specs.Mixed.{gradientOf, mixedEntry, Mixes, mixedOf};
 ghost use Rattle.smoothing.specs.Entry.{smoothRefusal, Smoothed};
 ghost use Rattle.smoothing.specs.Claims.{SmoothingLaws};
 use refusals::Answer;
@@ -88,12 +89,14 @@ fn slope_column(values: &[i64], height: usize, width: usize, col: usize, out: &m
     }
 }
 
-// The gradient of all cells. Two wrong answers that the contract rules out: the last column left as it was; and the gradient along rows.
+// The gradient of all cells. The first column is called for apart, so that `slope_column` has two callers and stays a function of its own in the machine code.
+// Two wrong answers that the contract rules out: the last column left as it was; and the gradient along rows.
 fn slopes(values: &[i64], height: usize, width: usize, out: &mut [i64])
-    requires { ⌜ (height ≤ 512) × (width ≤ 512) × (length (now values) ≡ width * height) × (length (now out) ≡ width * height) ⌝ }
+    requires { ⌜ (height ≤ 512) × (1 ≤ width) × (width ≤ 512) × (length (now values) ≡ width * height) × (length (now out) ≡ width * height) ⌝ }
     ensures { λ _. ⌜ now (out .exit) ≡ gradientOf height width (now (values .entry)) ⌝ }
 {
-    let mut col: usize = 0;
+    slope_column(values, height, width, 0, out);
+    let mut col: usize = 1;
     while col < width {
         slope_column(values, height, width, col, out);
         col += 1;
@@ -119,7 +122,39 @@ fn mixed_entry(z: i64, d: i64, low: bool, step: u64) -> i64
     16 * z - step as i64 * moved
 }
 
-// A column of the plane that is restored, of which the columns before are there.
+// A run of the plane that is restored, all of it in band 0 or none, of which the entries before are there.
+fn mix_run(
+    plane: &[i64],
+    decomposed: &[i64],
+    first: usize,
+    count: usize,
+    low: bool,
+    step: u64,
+    out: &mut [i64],
+)
+    requires { ⌜ (first + count ≤ length (now out)) × (length (now out) ≤ 262144) × (length (now plane) ≡ length (now out)) × (length (now decomposed) ≡ length (now out)) × (step ≤ 255) ⌝ }
+    requires { ⌜ ((k : ℕ) → k < length (now out) → natAbs (getD (now plane) k (pos 0)) ≤ 2 ^ 40) × ((k : ℕ) → k < length (now out) → natAbs (getD (now decomposed) k (pos 0)) ≤ 2 ^ 40) ⌝ }
+    ensures { λ _. ⌜ ((new old : List ℤ) → Mixes step low (now (plane .entry)) (now (decomposed .entry)) first count new → length new ≡ length old → length old ≡ length (now (out .entry)) → now (out .entry) ≡ half new old first → now (out .exit) ≡ half new old (first + count)) ⌝ }
+{
+    let mut i: usize = 0;
+    while i < count {
+        let k = first + i;
+        out[k] = mixed_entry(plane[k], decomposed[k], low, step);
+        i += 1;
+    }
+}
+
+// How many rows of a column are in band 0.
+fn low_rows(tall: usize, wide: usize, col: usize) -> usize
+    ensures { λ r. ⌜ r ≡ cond (ltb col wide) tall 0 ⌝ }
+{
+    if col < wide {
+        return tall;
+    }
+    0
+}
+
+// A column of the plane that is restored, of which the columns before are there: its rows in band 0, then the others.
 fn mix_column(
     plane: &[i64],
     decomposed: &[i64],
@@ -138,12 +173,17 @@ fn mix_column(
     ensures { λ _. ⌜ ((old : List ℤ) → length old ≡ width * height → now (out .entry) ≡ half (mixedOf levels height width step (now (plane .entry)) (now (decomposed .entry))) old (col * height) → now (out .exit) ≡ half (mixedOf levels height width step (now (plane .entry)) (now (decomposed .entry))) old (col * height + height)) ⌝ }
 {
     let first = col * height;
-    let mut row: usize = 0;
-    while row < height {
-        let k = first + row;
-        out[k] = mixed_entry(plane[k], decomposed[k], (row < tall) & (col < wide), step);
-        row += 1;
-    }
+    let low = low_rows(tall, wide, col);
+    mix_run(plane, decomposed, first, low, true, step, out);
+    mix_run(
+        plane,
+        decomposed,
+        first + low,
+        height - low,
+        false,
+        step,
+        out,
+    );
 }
 
 // The plane that is restored: 16 times the kept plane, less the step times the gradient where that is neither of band 0 nor kept.
@@ -194,7 +234,7 @@ fn smooth_all(
     result: &mut [i64],
     scratch: &mut [i64],
 )
-    requires { ⌜ Restorable levels height width (now coverings) (now plane) × (step ≤ 255) ⌝ }
+    requires { ⌜ Restorable levels height width (now coverings) (now plane) × (1 ≤ width) × (step ≤ 255) ⌝ }
     requires { ⌜ (length (now result) ≡ width * height) × (length (now scratch) ≡ width * height) ⌝ }
     ensures { λ _. ⌜ now (result .exit) ≡ smoothedOf levels height width (now (coverings .entry)) step (now (plane .entry)) ⌝ }
     ensures { λ _. ⌜ now (scratch .exit) ≡ replicate (width * height) (pos 0) ⌝ }

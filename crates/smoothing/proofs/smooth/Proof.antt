@@ -35,7 +35,7 @@ enum-told : tie.Need-enum-told
 enum-told c = search needs
 
 smooth-all-requires : tie.Need-smooth-all-requires
-smooth-all-requires c κs = let f = good (c .before .before) in ((mergeable _ (f .passes), f .small), (f .result-long, f .scratch-long))
+smooth-all-requires c κs = let f = good (c .before .before) in ((mergeable _ (f .passes), f .some, f .small), (f .result-long, f .scratch-long))
 
 same-length-3 : tie.Need-same-length-3
 same-length-3 c = search needs

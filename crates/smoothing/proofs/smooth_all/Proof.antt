@@ -48,7 +48,10 @@ synthesise-requires c κs =
     (c .before .before .before .before .before .before .cells .ensures, (rw (c .before .before .before .before .copy .ensures) (by-largest (s .pre .0 .0)), s .pre .1 .1))
 
 slopes-requires : tie.Need-slopes-requires
-slopes-requires c κs = search needs
+slopes-requires c κs =
+    let s = c .before .before .before .before .before .before .before .before .before .before .before .before .before in
+    let r = s .pre .0 .0 in
+    (r .height, s .pre .0 .1, r .width, ap length (merged (c .before .before .before .before)) ∙ slice-length _ _ _, c .before .before .before .before .synthesise .kept .1 .1 .1 .1 .1 .1 .0 ∙ s .pre .1 .1)
 
 decompose-by-requires : tie.Need-decompose-by-requires
 decompose-by-requires c κs =
@@ -64,14 +67,14 @@ mix-requires c κs =
     let s = c .before .before .before .before .before .before .before .before .before .before .before .before .before .before .before .before .before .before .before .before .before .before .before in
     let r = s .pre .0 .0 in
     let e = decomposed (c .before .before .before .before) in (
-      (r .most, r .height, r .width, s .pre .0 .1),
+      (r .most, r .height, r .width, s .pre .0 .2),
       ((r .plane-long, ap length e ∙ slice-length _ _ _, c .before .before .before .before .decompose-by .kept .1 .1 .1 .1 .1 .1 .0 ∙ ap length (merged (c .before .before .before .before .before .before .before .before .before .before .before .before .before .before)) ∙ slice-length _ _ _), (plane-small r (s .args .step), rw e (second-small r (s .args .step)))),
     )
 
 synthesise-requires-2 : tie.Need-synthesise-requires-2
 synthesise-requires-2 c κs =
     let s = c .before .before .before .before .before .before .before .before .before .before .before .before .before .before .before .before .before .before .before .before .before .before .before .before .before .before .before .before in
-    (c .before .before .before .before .before .before .before .before .before .before .before .before .before .before .before .before .before .before .before .before .before .before .before .before .before .before .cells .ensures, (rw (mixed (c .before .before .before .before)) (by-largest (third-mergeable (s .pre .0 .0) (s .args .step) (s .pre .0 .1))), ap length (decomposed (c .before .before .before .before .before .before .before .before .before)) ∙ slice-length _ _ _))
+    (c .before .before .before .before .before .before .before .before .before .before .before .before .before .before .before .before .before .before .before .before .before .before .before .before .before .before .cells .ensures, (rw (mixed (c .before .before .before .before)) (by-largest (third-mergeable (s .pre .0 .0) (s .args .step) (s .pre .0 .2))), ap length (decomposed (c .before .before .before .before .before .before .before .before .before)) ∙ slice-length _ _ _))
 
 same-length : tie.Need-same-length
 same-length c =

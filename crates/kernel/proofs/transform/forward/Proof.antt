@@ -18,9 +18,8 @@ piece-requires-4 c κs = search needs
 
 returns : tie.Need-returns
 returns c =
-    let a = c .before .before .before .before in
-    let s = a .before .before .before .before in
-    four-pieces (s .args .covering) (s .args .v) (s .pre .2) (a .before .before .before .piece .ensures) (a .before .before .piece2 .ensures) (a .before .piece3 .ensures) (a .piece4 .ensures)
+    let s = c .before .before .before .before .before .before .before .before .before .before .before .before in
+    four-pieces (s .args .covering) (s .args .t3) (s .pre .2) (c .before .before .before .before .before .before .before .before .before .before .piece .ensures) (c .before .before .before .before .before .before .before .before .piece2 .ensures) (c .before .before .before .before .before .before .piece3 .ensures) (c .before .before .before .before .piece4 .ensures)
 
 pub forward-spec : {M : Type 1} → statement M
 forward-spec =

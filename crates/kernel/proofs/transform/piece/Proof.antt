@@ -45,35 +45,35 @@ cell-at-requires-4 c κs = search needs
 mul-signed-sums : tie.Need-mul-signed-sums
 mul-signed-sums c = search needs
 
-array-copy-out-signed-sums : tie.Need-array-copy-out-signed-sums
-array-copy-out-signed-sums c = search needs
+element-copy-out-signed-sums : tie.Need-element-copy-out-signed-sums
+element-copy-out-signed-sums c = search needs
 
 mul-signed-sums-2 : tie.Need-mul-signed-sums-2
 mul-signed-sums-2 c = search needs
 
-array-copy-out-signed-sums-2 : tie.Need-array-copy-out-signed-sums-2
-array-copy-out-signed-sums-2 c = search needs
+element-copy-out-signed-sums-2 : tie.Need-element-copy-out-signed-sums-2
+element-copy-out-signed-sums-2 c = search needs
 
 mul-signed-sums-3 : tie.Need-mul-signed-sums-3
 mul-signed-sums-3 c = search needs
 
-array-copy-out-signed-sums-3 : tie.Need-array-copy-out-signed-sums-3
-array-copy-out-signed-sums-3 c = search needs
+element-copy-out-signed-sums-3 : tie.Need-element-copy-out-signed-sums-3
+element-copy-out-signed-sums-3 c = search needs
 
 mul-signed-sums-4 : tie.Need-mul-signed-sums-4
 mul-signed-sums-4 c = search needs
 
-array-copy-out-signed-sums-4 : tie.Need-array-copy-out-signed-sums-4
-array-copy-out-signed-sums-4 c = search needs
+element-copy-out-signed-sums-4 : tie.Need-element-copy-out-signed-sums-4
+element-copy-out-signed-sums-4 c = search needs
 
 signed-sums-requires : tie.Need-signed-sums-requires
 signed-sums-requires c κs =
     let a = c .before .before .before .before in
     let s = a .before .before .before .before in (
-      small-within (s .args .t4) (s .pre .3) _ (a .before .before .before .cell-at .ensures .1),
-      small-within (s .args .t4) (s .pre .3) _ (a .before .before .cell-at2 .ensures .1),
-      small-within (s .args .t4) (s .pre .3) _ (a .before .cell-at3 .ensures .1),
-      small-within (s .args .t4) (s .pre .3) _ (a .cell-at4 .ensures .1),
+      small-within (s .args .v .now) (s .pre .3) _ (a .before .before .before .cell-at .ensures .1),
+      small-within (s .args .v .now) (s .pre .3) _ (a .before .before .cell-at2 .ensures .1),
+      small-within (s .args .v .now) (s .pre .3) _ (a .before .cell-at3 .ensures .1),
+      small-within (s .args .v .now) (s .pre .3) _ (a .cell-at4 .ensures .1),
     )
 
 returns : tie.Need-returns
@@ -83,11 +83,11 @@ returns c =
     let x = a .before .before .before .before .args in
     let h = a .before .before .before .before .pre .3 in
     let w = wordOf (x .covering) in
-    summed (valuesOf (shapesOf w (placeIn (x .label) (labelsOf w))) (at (x .t4)))
-    (piece-value (x .covering) (x .label) 0 _ _ (x .t4) h (omega arith) (omega arith) (a .before .before .before .cell-at .ensures))
-    (piece-value (x .covering) (x .label) 1 _ _ (x .t4) h refl (omega arith) (a .before .before .cell-at2 .ensures))
-    (piece-value (x .covering) (x .label) 2 _ _ (x .t4) h refl (omega arith) (a .before .cell-at3 .ensures))
-    (piece-value (x .covering) (x .label) 3 _ _ (x .t4) h refl (omega arith) (a .cell-at4 .ensures))
+    summed (valuesOf (shapesOf w (placeIn (x .label) (labelsOf w))) (at (x .v .now)))
+    (piece-value (x .covering) (x .label) 0 _ _ (x .v .now) h (omega arith) (omega arith) (a .before .before .before .cell-at .ensures))
+    (piece-value (x .covering) (x .label) 1 _ _ (x .v .now) h refl (omega arith) (a .before .before .cell-at2 .ensures))
+    (piece-value (x .covering) (x .label) 2 _ _ (x .v .now) h refl (omega arith) (a .before .cell-at3 .ensures))
+    (piece-value (x .covering) (x .label) 3 _ _ (x .v .now) h refl (omega arith) (a .cell-at4 .ensures))
     (c .signed-sums .ensures)
 
 pub piece-spec : {M : Type 1} → statement M
@@ -106,12 +106,12 @@ piece-spec =
     add-cell-at-3
     cell-at-requires-4
     mul-signed-sums
-    array-copy-out-signed-sums
+    element-copy-out-signed-sums
     mul-signed-sums-2
-    array-copy-out-signed-sums-2
+    element-copy-out-signed-sums-2
     mul-signed-sums-3
-    array-copy-out-signed-sums-3
+    element-copy-out-signed-sums-3
     mul-signed-sums-4
-    array-copy-out-signed-sums-4
+    element-copy-out-signed-sums-4
     signed-sums-requires
     returns)
