@@ -3,6 +3,8 @@ ghost use mathlib.Core.Path.{_≡_};
 ghost use Prim.Native.Nat.{ℕ, _+_, _*_, _/_, _<_, _≤_};
 ghost use lib.ListN.{length, getD};
 ghost use Rattle.slices.specs.Stores.{scatter};
+ghost use Rattle.coverings.specs.Rule.{Number};
+ghost use Rattle.tables.specs.Tables.{cellTable, cellAt};
 ghost use Rattle.kernel.specs.Kernel.{at};
 ghost use Rattle.grid.specs.Grid.{cellPlace, bandPlace, startsOf, gathered};
 
@@ -21,14 +23,24 @@ pub fn cells_of(image: &[i64], height: usize, start: usize) -> [i64; 16]
     v
 }
 
-// Stores the values of a block in its cells.
-pub fn put_cells(out: &mut [i64], height: usize, start: usize, v: [i64; 16])
-    requires { ⌜ start + 3 * height + 3 < length (now out) ⌝ }
-    ensures { λ _. ⌜ now (out .exit) ≡ scatter (cellPlace height start) (at v) 16 (now (out .entry)) ⌝ }
+// Stores the values of a block, at 4 * label + i that of the i-th cell of the piece with that label, in the cells. So no array of the values in cell order is
+// filled at places that are not known, and read again.
+// Two wrong answers that the contract rules out: the values in the order of the labels; and a block beside this one.
+pub fn put_pieces(
+    out: &mut [i64],
+    height: usize,
+    start: usize,
+    cells: &[u8; 1872],
+    covering: u8,
+    v: [i64; 16],
+)
+    requires { ⌜ (now cells ≡ cellTable) × Number covering × (start + 3 * height + 3 < length (now out)) ⌝ }
+    ensures { λ _. ⌜ now (out .exit) ≡ scatter (λ k. cellPlace height start (cellAt covering k)) (at v) 16 (now (out .entry)) ⌝ }
 {
     let mut k: usize = 0;
     while k < 16 {
-        let place = start + k / 4 * height + k % 4;
+        let cell = kernel::transform::cell_at(cells, covering, k);
+        let place = start + cell / 4 * height + cell % 4;
         out[place] = v[k];
         k += 1;
     }

@@ -30,7 +30,8 @@ pub fn signed_sums(a: i64, b: i64, c: i64, d: i64) -> Sums
 }
 
 // The cell of a covering at 4 * label + i: the i-th cell of the piece with that label.
-fn cell_at(cells: &[u8; 1872], covering: u8, k: usize) -> usize
+// Two wrong answers that the contract rules out: that of the covering before; and the pieces by their names.
+pub fn cell_at(cells: &[u8; 1872], covering: u8, k: usize) -> usize
     requires { ⌜ (now cells ≡ cellTable) × Number covering × (k < 16) ⌝ }
     ensures { λ r. ⌜ (r ≡ cellAt covering k) × (r < 16) ⌝ }
 {
@@ -89,7 +90,8 @@ fn unsum(t: [i64; 16], label: usize) -> Sums
 }
 
 // The values of the four pieces: at 4 * label + i that of the i-th cell.
-fn by_labels(t: [i64; 16]) -> [i64; 16]
+// Two wrong answers that the contract rules out: the values at 4 * i + label; and those of one piece for all four.
+pub fn by_labels(t: [i64; 16]) -> [i64; 16]
     requires { ⌜ Within (2 ^ 40) t ⌝ }
     ensures { λ r. ⌜ r ≡ piecewise t ⌝ }
 {

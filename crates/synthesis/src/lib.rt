@@ -59,12 +59,15 @@ fn merge_block(
 {
     let begin = grid::starts(height, tall, wide, i, j);
     let results = results_of(image, height, begin, weight);
-    let values = kernel::transform::inverse(
+    let values = kernel::transform::by_labels(results);
+    grid::put_pieces(
+        out,
+        height,
+        j * 4 * height + i * 4,
         cells,
         coverings[first + (j * (tall / 4) + i)],
-        results,
+        values,
     );
-    grid::put_cells(out, height, j * 4 * height + i * 4, values);
 }
 
 // The blocks of block column j.
