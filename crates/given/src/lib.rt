@@ -1,4 +1,5 @@
-// Decomposing by given coverings: one block, one level, all levels. Nothing is chosen and nothing is counted.
+// Decomposing by given coverings: one block, one level, all levels, in the slice that holds the image. Nothing is chosen and nothing is counted. The walk over
+// the blocks and the descent over the levels are those of `analysis`, whose lemmas are for any coverings. It serves the smoothing step and is no entry.
 ghost use mathlib.Core.Path.{_≡_};
 ghost use Prim.Native.Nat.{_+_, _*_, _/_, _<_, _≤_};
 ghost use lib.ListN.{length};
@@ -76,6 +77,7 @@ fn level_by(
 }
 
 // All levels: the image becomes its plane by the coverings. `work` is a slice as long, which is overwritten.
+// Two wrong answers that the contract rules out: the last level left out; and the first level's coverings for all of them.
 pub fn decompose_by(
     cells: &[u8; 1872],
     height: usize,
