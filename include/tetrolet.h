@@ -138,7 +138,7 @@ uint32_t tetrolet_restore_listed(size_t height, size_t width, size_t levels, con
 
 /*
  * Keeps the first `quota` tetrolet coefficients by falling rank |W| * 2^(R-r), then in plane order; the others become 0.
- * The low-pass is never cut.
+ * The low-pass is never cut. Keeping L and then K leaves what keeping the smaller of the two leaves, and gives the same count.
  *   plane      height * width entries in range, as for tetrolet_restore, read and written
  *   left       the number of tetrolet coefficients left that are not zero, written
  * Refusals: 1, 2, 3, 6, 7.
@@ -147,7 +147,7 @@ uint32_t tetrolet_keep(size_t height, size_t width, size_t levels, int64_t *plan
 
 /*
  * Cuts by a threshold: a level-r tetrolet coefficient stays where |W| is at least threshold * 2^r; the others become 0.
- * The low-pass is never cut.
+ * The low-pass is never cut. Cutting by T and then by S leaves what cutting by the larger of the two leaves, and gives the same count.
  *   plane      height * width entries in range, as for tetrolet_restore, read and written
  *   left       the number of tetrolet coefficients left that are not zero, written
  * Refusals: 1, 2, 3, 6, 8.

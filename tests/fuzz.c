@@ -1,6 +1,7 @@
 /* Random and damaged calls through the C interface, compared with the plain C of bench/baseline.c and, where the area is at most 256
    or the entry is a quick one, with the plain second implementation (crate plain_c): the answer, every slice and every number lent. A
-   refused call must leave all as it was. More than half of the calls have slices made for strips, as many tall ones as wide ones.
+   refused call must leave all as it was. A plane that was cut is cut again, and compared with the plane cut once. More than half of the
+   calls have slices made for strips, as many tall ones as wide ones.
 
    fuzz [CALLS [SEED]]
 
@@ -887,6 +888,25 @@ static void call_restore_listed(struct tally *t)
                                       numerators->base, numerators->len, samples->base, samples->len, scratch->base, scratch->len));
 }
 
+typedef uint32_t cut_entry(size_t height, size_t width, size_t levels, int64_t *plane, size_t plane_len, uint64_t number, size_t *left);
+
+/* A second call, by `second`, on what the first left must leave and give what one call, by `once`, does on the plane that was lent, of the library and
+   of the plain C. */
+static void cut_again(cut_entry *cut, cut_entry *plain_cut, struct frame f, struct slice *plane, struct slice *left, uint64_t second, uint64_t once)
+{
+    size_t count, plain_count;
+    memcpy(plane->base, plane->old, plane->bytes);
+    if (cut(f.height, f.width, f.levels, plane->lib, plane->len, second, left->lib) != 0)
+        differ("a plane that was cut is refused");
+    if (cut(f.height, f.width, f.levels, plane->old, plane->len, once, &count) != 0
+        || plain_cut(f.height, f.width, f.levels, plane->base, plane->len, once, &plain_count) != 0)
+        differ("a plane that was accepted is refused");
+    if (memcmp(plane->lib, plane->old, plane->bytes) != 0 || memcmp(plane->lib, plane->base, plane->bytes) != 0)
+        differ("two cuts leave what one does not");
+    if (*(size_t *)left->lib != count || count != plain_count)
+        differ("the count of two cuts is not that of one");
+}
+
 static void call_keep(struct tally *t)
 {
     struct frame f = make_frame();
@@ -900,6 +920,11 @@ static void call_keep(struct tally *t)
     if (asks_plain(f.area))
         compare_plain(t, a, plain_keep(f.height, f.width, f.levels, plane->plain, plane->len, quota, left->plain));
     compare(t, a, base_keep(f.height, f.width, f.levels, plane->base, plane->len, quota, left->base));
+    if (a == 0) {
+        most = plane->len - (plane->len >> 2 * f.levels);
+        uint64_t second = once_in(6) ? quota : once_in(6) ? most : once_in(6) ? 0 : below(most + 1);
+        cut_again(tetrolet_keep, base_keep, f, plane, left, second, quota < second ? quota : second);
+    }
 }
 
 static void call_threshold(struct tally *t)
@@ -915,6 +940,10 @@ static void call_threshold(struct tally *t)
     if (asks_plain(f.area))
         compare_plain(t, a, plain_threshold(f.height, f.width, f.levels, plane->plain, plane->len, threshold, left->plain));
     compare(t, a, base_threshold(f.height, f.width, f.levels, plane->base, plane->len, threshold, left->base));
+    if (a == 0) {
+        uint64_t second = once_in(6) ? threshold : once_in(6) ? 1000000 : once_in(6) ? 0 : below(1200);
+        cut_again(tetrolet_threshold, base_threshold, f, plane, left, second, threshold < second ? second : threshold);
+    }
 }
 
 /* What a joined strip restores to: the numerators of the left one, then those of the right one; and so for the samples. */

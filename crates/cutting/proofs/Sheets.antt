@@ -12,7 +12,7 @@ use Rattle.integers.specs.Lists.{every}
 use Rattle.integers.proofs.Tests.{is-true, both, every-of}
 use Rattle.refusals.specs.Refusal.{numberOf, answerOf, countedOf, countOf, refuseIf, afterCall}
 use Rattle.refusals.specs.declared.Refusal.{Refusal}
-use Rattle.refusals.proofs.After.{never-zero}
+use Rattle.refusals.proofs.After.{never-zero, past, within}
 use Rattle.refusals.specs.declared.Answer.{Answer}
 use Rattle.refusals.specs.declared.Answer.the-variants.{Done, Refused}
 use Rattle.refusals.specs.declared.Counted.{Counted}
@@ -31,6 +31,7 @@ use Rattle.quota.proofs.Accepted.{selected-accepted}
 use Rattle.coder.specs.Entries.{isSample, decomposeRefusal, Decomposed}
 use Rattle.coder.proofs.Gates.{truth, small-samples}
 use Rattle.keeping.specs.Entries.{keepRefusal, Kept}
+use Rattle.keeping.proofs.Checks.{front-passes}
 use Rattle.sheet_text.specs.Sheet.{sheetText, writeRefusal}
 use Rattle.sheet.specs.Write.{WriteAnswered}
 use Rattle.cutting.specs.Cutter.{refusalText, pictureText, Printed}
@@ -44,17 +45,9 @@ refused-by : (r : Refusal) (t : Bool) (m : ℕ) → numberOf r ≡ refuseIf t m 
 refused-by r true m e = (refl, e)
 refused-by r false m e = absurd (never-zero r e)
 
-passed-by : (t : Bool) (m : ℕ) → 0 ≡ refuseIf t (suc m) 0 → t ≡ false
-passed-by true m e = absurd (omega arith)
-passed-by false m e = refl
-
 is-not : (t : Bool) → not t ≡ true → t ≡ false
 is-not true e = sym e
 is-not false e = refl
-
-is-so : (t : Bool) → not t ≡ false → t ≡ true
-is-so true e = refl
-is-so false e = sym e
 
 -- what is printed
 module _ (h w R K : ℕ) (s : List ℕ) where
@@ -96,7 +89,7 @@ module _ (h w R : ℕ) (s : List ℕ) (a : isSides h w ≡ true) (b : isDepth R 
     bad-samples r d = let x = refused-by r (not (every isSample s)) 4 (d .number ∙ decomposes) in (is-not (every isSample s) (x .0), x .1)
 
     good-samples : {p′ q′ : List ℤ} {c′ : List ℕ} → Decomposed h w R s p p′ c c′ q q′ 0 → every isSample s ≡ true
-    good-samples d = is-so (every isSample s) (passed-by (not (every isSample s)) 3 (d .number ∙ decomposes))
+    good-samples d = past (every isSample s) 3 (d .number ∙ decomposes) .0
 
   module _ (g : every isSample s ≡ true) where
     below : (i : ℕ) → i < w * h → getD s i 0 ≤ 4095
@@ -119,13 +112,13 @@ module _ (h w R : ℕ) (s : List ℕ) (a : isSides h w ≡ true) (b : isDepth R 
         (λ i l. let m = covers-numbers R h w (pictureOf h s) i (rw (← covers-length R h w (pictureOf h s)) l) in both (leb 1 (getD C i 0)) (leb (getD C i 0) 117) (le→leb 1 _ (m .0)) (le→leb _ 117 (m .1))))
 
     keeps : (K : ℕ) → keepRefusal h w R P K ≡ refuseIf (ltb (quotaLimit h w R) K) 7 0
-    keeps K = rw (a, b, eq-eqb (length P) (w * h) (slice-length h w _), ranges)
+    keeps K = front-passes h w R P (record { sided = a; deep = b; long = slice-length h w _; range = ranges }) _
 
     bad-quota : {p′ : List ℤ} (K : ℕ) (r : Refusal) → Kept h w R P p′ K (numberOf r) 0 → (ltb (quotaLimit h w R) K ≡ true) × (numberOf r ≡ 7)
     bad-quota K r d = refused-by r (ltb (quotaLimit h w R) K) 7 (d .number ∙ keeps K)
 
     good-quota : {p′ : List ℤ} (K m : ℕ) → Kept h w R P p′ K 0 m → ltb (quotaLimit h w R) K ≡ false
-    good-quota K m d = passed-by (ltb (quotaLimit h w R) K) 6 (d .number ∙ keeps K)
+    good-quota K m d = within (ltb (quotaLimit h w R) K) 6 (d .number ∙ keeps K) .0
 
     writes : h ≤ 32 → w ≤ 32 → (K : ℕ) (out : List ℕ) → 65536 ≤ length out → writeRefusal h w R (keptOf R h w K P) C out ≡ 0
     writes l m K out room =

@@ -1,6 +1,6 @@
 -- The laws of join beside the other entries: what restoring, keeping, cutting and writing make of a joined strip, and two pictures joined. Assumes nothing.
 use mathlib.Core.Path.{_≡_, refl, sym, ap, _∙_, subst, subst⁻¹}
-use mathlib.Core.Bool.{true, not, _&&_}
+use mathlib.Core.Bool.{Bool, true, not, _&&_}
 use mathlib.Core.List.{List, _++_}
 use Prim.Native.Nat.{ℕ, _+_, _*_, _≤_}
 use lib.IntN.{ℤ, pos}
@@ -15,7 +15,8 @@ use Rattle.quota.specs.Quota.{quotaLimit}
 use Rattle.coder.specs.Claims.{Left}
 use Rattle.coder.specs.Entries.{restoreRefusal, Restored}
 use Rattle.coder.proofs.Gates.{restored-passes, restores}
-use Rattle.keeping.specs.Entries.{keepRefusal, cutRefusal}
+use Rattle.keeping.specs.Entries.{planeRefusal, keepRefusal, cutRefusal}
+use Rattle.keeping.proofs.Checks.{front-passes}
 use Rattle.sheet_text.specs.Sheet.{sheetText, writeRefusal}
 use Rattle.strips.specs.Join.{joinedOf, joinedCovers}
 use Rattle.strips.specs.Laws.{JoinLaws}
@@ -53,12 +54,14 @@ module _ (s : Strip) (a : Passes s) where
       → restoreRefusal (s .height) (s .width) (s .levels) (s .plane) (s .coverings) numerators samples scratch ≡ 0
   restoring numerators scratch samples b c d = restores (s .height) (s .width) (s .levels) (s .plane) (s .coverings) numerators samples scratch sided deep (a .frame .0) (a .frame .1) b c d numbered ranged
 
+  checked : (rest : ℕ) → planeRefusal (s .height) (s .width) (s .levels) (s .plane) rest ≡ rest
+  checked = front-passes (s .height) (s .width) (s .levels) (s .plane) (record { sided = sided; deep = deep; long = a .frame .0; range = ranged })
+
   keeping : (quota : ℕ) → quota ≤ quotaLimit (s .height) (s .width) (s .levels) → keepRefusal (s .height) (s .width) (s .levels) (s .plane) quota ≡ 0
-  keeping quota l i =
-      refuseIf (not (sided i)) 1 (refuseIf (not (deep i)) 2 (refuseIf (not (long i)) 3 (refuseIf (not (ranged i)) 6 (refuseIf (false-at (quotaLimit (s .height) (s .width) (s .levels)) quota l i) 7 0))))
+  keeping quota l = checked _ ∙ ap (λ (b : Bool). refuseIf b 7 0) (false-at (quotaLimit (s .height) (s .width) (s .levels)) quota l)
 
   cutting : (limit : ℕ) → limit ≤ 1000000 → cutRefusal (s .height) (s .width) (s .levels) (s .plane) limit ≡ 0
-  cutting limit l i = refuseIf (not (sided i)) 1 (refuseIf (not (deep i)) 2 (refuseIf (not (long i)) 3 (refuseIf (not (ranged i)) 6 (refuseIf (false-at 1000000 limit l i) 8 0))))
+  cutting limit l = checked _ ∙ ap (λ (b : Bool). refuseIf b 8 0) (false-at 1000000 limit l)
 
   writing : (buffer : List ℕ) → length (sheetText (s .height) (s .width) (s .levels) (s .plane) (s .coverings)) ≤ length buffer
       → writeRefusal (s .height) (s .width) (s .levels) (s .plane) (s .coverings) buffer ≡ 0

@@ -20,9 +20,9 @@ use Rattle.pyramid.proofs.Places.{none, places-levels}
 use Rattle.pyramid.proofs.Number.{places-count}
 use Rattle.quota.specs.Quota.{ranks, stays, passes, keptOf, cutOf}
 use Rattle.quota.proofs.Demand.{q-at, q-length}
+use Rattle.quota.proofs.Select.{same-selected}
 use Rattle.sifting.specs.Sifting.{ties, Limit, sifts, siftedOf}
 use Rattle.sifting.proofs.Limits.{keep-by, ties-few}
-use Rattle.sifting.proofs.Passing.{same-selected}
 
 pub kept-is : (R h w : ℕ) → Fits R h w → (p : List ℤ) (K t over : ℕ) → Limit (ranks R h w (imageOf h p)) K t over → siftedOf R h w t (K - over) p ≡ keptOf R h w K p
 kept-is R h w f p K t over g =

@@ -1,7 +1,8 @@
--- Keep K on a list of ranks: at most K entries stay, and no other choice of at most K entries leaves out a lesser sum of squares. Assumes nothing.
+-- Keep K on a list of ranks: at most K entries stay, no other choice of at most K entries leaves out a lesser sum of squares, and keeping what was kept is
+-- keeping the smaller of the two. Assumes nothing.
 use mathlib.Core.Path.{_≡_, refl, sym, ap, _∙_, subst}
 use mathlib.Core.Logic.{_⊎_, inl, inr}
-use mathlib.Core.Bool.{Bool, true, false, not, cond, _&&_}
+use mathlib.Core.Bool.{Bool, true, false, not, cond, _&&_, _||_}
 use mathlib.Core.List.{List}
 use Prim.Native.Nat.{ℕ, zero, suc, _+_, _*_, _≤_, _<_, min}
 use native.Mathlib.Omega.{arith}
@@ -10,8 +11,8 @@ use native.Mathlib.Decide.{decLt}
 use lib.Dec.{T, eqb, ltb, eqb→eq, ltb→lt, lt→ltb, nltb→le, T-not}
 use lib.ListN.{length, getD}
 use Rattle.integers.specs.Sum.{Σℕ, only}
-use Rattle.integers.proofs.Sums.{Σℕ-mono, Σℕ-add, Σℕ-scale, Σℕ-zero, δ, δ-same, pick-out}
-use Rattle.integers.proofs.Tests.{both-left, both-right, either, or-left, or-right, decided, eq→eqb, is-true}
+use Rattle.integers.proofs.Sums.{Σℕ-cong, Σℕ-mono, Σℕ-add, Σℕ-scale, Σℕ-zero, δ, δ-same, pick-out}
+use Rattle.integers.proofs.Tests.{both-left, both-right, either, or-left, or-right, decided, eq→eqb, is-true, is-false, true-at, false-at}
 use Rattle.quota.specs.Quota.{before, stays}
 
 -- the first of the numbers below n that pass a test, in a total order
@@ -313,3 +314,55 @@ module _ (q : List ℕ) where
             let most = stay-count in
             let least = enough (r .0) (r .2) (r .3) in
             omega (arith, at-most)
+
+-- what stays under a quota stays under a larger one
+pub stay-more : (q : List ℕ) (K L n : ℕ) → K ≤ L → T (stays K q n) → T (stays L q n)
+stay-more q K L n h t = go (decided (stays L q n))
+  where
+    go : T (stays L q n) ⊎ T (not (stays L q n)) → T (stays L q n)
+    go (inl s) = s
+    go (inr s) = absurd (let x = stay-ahead q K n t in let y = drop-ahead q L n (stay-rank q K n t) s in omega arith)
+
+-- q′ is what keeping L leaves of q
+module _ (q q′ : List ℕ) (L K : ℕ) (long : length q′ ≡ length q) (left : (m : ℕ) → m < length q → getD q′ m 0 ≡ cond (stays L q m) (getD q m 0) 0) where
+  as-before : (m : ℕ) → m < length q → T (stays L q m) → getD q′ m 0 ≡ getD q m 0
+  as-before m k t = left m k ∙ ap (λ (b : Bool). cond b (getD q m 0) 0) (is-true (stays L q m) t)
+
+  gone : (m : ℕ) → m < length q → T (not (stays L q m)) → getD q′ m 0 ≡ 0
+  gone m k t = left m k ∙ ap (λ (b : Bool). cond b (getD q m 0) 0) (is-false (stays L q m) (T-not (stays L q m) t))
+
+  -- those that go before an entry that stayed have stayed too
+  before-again : (m n : ℕ) → m < length q → n < length q → T (stays L q n) → before q′ m n ≡ before q m n
+  before-again m n k l t = go (decided (stays L q m))
+    where
+      go : T (stays L q m) ⊎ T (not (stays L q m)) → before q′ m n ≡ before q m n
+      go (inl s) = λ i. ltb (as-before n l t i) (as-before m k s i) || (eqb (as-before n l t i) (as-before m k s i) && ltb m n)
+      go (inr s) = is-false (before q′ m n) (λ b. never (of-before q′ m n b)) ∙ sym (is-false (before q m n) (λ b. neither (of-before q m n b)))
+        where
+          never : Before q′ m n → ⊥
+          never b = let r = before-rank q′ m n b in let z = gone m k s in let e = as-before n l t in let x = stay-rank q L n t in omega arith
+
+          neither : Before q m n → ⊥
+          neither b =
+              let r = before-rank q m n b in let x = stay-rank q L n t in
+              let y = drop-ahead q L m (omega arith) s in let a = ahead-mono q m n b in let z = stay-ahead q L n t in omega arith
+
+  ahead-again : (n : ℕ) → n < length q → T (stays L q n) → ahead q′ n ≡ ahead q n
+  unfolding ahead
+  ahead-again n l t =
+      ap {B = ℕ} (λ (k : ℕ). Σℕ k (λ m. cond (before q′ m n) 1 0)) long
+      ∙ Σℕ-cong (length q) (λ m. cond (before q′ m n) 1 0) (λ m. cond (before q m n) 1 0) (λ m k. ap {B = ℕ} (λ (b : Bool). cond b 1 0) (before-again m n k l t))
+
+  pub stays-again : (n : ℕ) → n < length q → stays K q′ n ≡ stays (min L K) q n
+  unfolding stays ahead
+  stays-again n l = go (decided (stays L q n))
+    where
+      go : T (stays L q n) ⊎ T (not (stays L q n)) → stays K q′ n ≡ stays (min L K) q n
+      go (inr s) =
+          is-false (stays K q′ n) (λ t. let x = stay-rank q′ K n t in let z = gone n l s in omega arith)
+          ∙ sym (is-false (stays (min L K) q n) (λ t. T-not (stays L q n) s (stay-more q (min L K) L n (omega arith) t)))
+      go (inl s) = (λ i. ltb 0 (as-before n l s i) && ltb (ahead-again n l s i) K) ∙ ap (λ (b : Bool). ltb 0 (getD q n 0) && b) (on (decLt (ahead q n) K) (stay-ahead q L n s))
+        where
+          on : Dec (ahead q n < K) → ahead q n < L → ltb (ahead q n) K ≡ ltb (ahead q n) (min L K)
+          on (yes h) g = true-at (ahead q n) K h ∙ sym (true-at (ahead q n) (min L K) (omega arith))
+          on (no h) g = false-at (ahead q n) K (omega arith) ∙ sym (false-at (ahead q n) (min L K) (omega arith))

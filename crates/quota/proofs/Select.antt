@@ -1,25 +1,28 @@
--- A selection of a plane's entries by their numbers in plane order: what it leaves. Assumes nothing.
-use mathlib.Core.Path.{_≡_, ap, _∙_, refl, subst⁻¹}
+-- A selection of a plane's entries by their numbers in plane order: what it leaves, and what a second one leaves of that. Assumes nothing.
+use mathlib.Core.Path.{_≡_, ap, sym, _∙_, refl, subst⁻¹}
+use mathlib.Core.Logic.{_⊎_, inl, inr}
 use mathlib.Core.Bool.{Bool, cond, true, false}
+use mathlib.Core.List.{List}
 use Prim.Native.Nat.{ℕ, zero, suc, _+_, _*_, _-_, _/_, _≤_, _<_, _^_}
 use native.Mathlib.Omega.{arith}
 use lib.IntN.{pos, ℤ, natAbs, _-ℤ_, +ℤ-invr}
-use lib.ListN.{getD}
+use lib.ListN.{length, getD}
 use native.Mathlib.Decide.{decLt}
 use Rattle.pyramid.specs.Plane.{Image, Fits, band, layout, withLow, halved}
-use Rattle.pyramid.specs.Places.{placesFrom, at, tetroletPlaces}
+use Rattle.pyramid.specs.Places.{Place, placesFrom, at, tetroletPlaces}
+use Rattle.pyramid.specs.Slices.{imageOf, sliceOf}
 use Rattle.quota.specs.Quota.{select}
 use Rattle.pyramid.proofs.Levels.{layout-low, layout-band}
 use Rattle.integers.proofs.Tests.{true-at, false-at}
-use Rattle.pyramid.proofs.Places.{none, All, size, all-places, places-inside}
-use Rattle.pyramid.proofs.Number.{later, numberAt}
+use Rattle.pyramid.proofs.Places.{none, All, size, all-places, places-inside, at-cong}
+use Rattle.pyramid.proofs.Number.{later, numberAt, entry-cases}
 use Rattle.pyramid.specs.Ranges.{InRange}
 use Rattle.pyramid.proofs.Ranges.{halved-le}
 use Rattle.integers.specs.Sum.{Σℕ, sq}
 use Rattle.integers.proofs.Sums.{Σℕ-cong, Σℕ-zero}
 use Rattle.pyramid.proofs.Energy.{lowTotal, total-cong}
 use Rattle.pyramid.proofs.Pyramid.{top-below, left-below}
-use Rattle.pyramid.proofs.Slices.{Agree, layout-cong}
+use Rattle.pyramid.proofs.Slices.{Agree, layout-cong, image-slice, slice-length, slice-of}
 
 -- what a selection leaves at the place with the number n
 pub select-places : (d R h w : ℕ) → Fits R h w → (stay : ℕ → Bool) (P : Image) → All (λ n p. at (select R h w stay P) p ≡ cond (stay n) (at P p) (pos 0)) (placesFrom false d R h w)
@@ -102,6 +105,51 @@ selected-range R h w f stay P r = record {
     go : (b : Bool) {z : ℤ} {m : ℕ} (y : ℤ) → z ≡ cond b y (pos 0) → natAbs y ≤ m → natAbs z ≤ m
     go true {m = m} y e h = subst⁻¹ (λ (x : ℤ). natAbs x ≤ m) e h
     go false {m = m} y e h = subst⁻¹ (λ (x : ℤ). natAbs x ≤ m) e (omega arith)
+
+-- planes with the same low-pass and the same entry at each place are the same slice
+module _ (R h w : ℕ) (f : Fits R h w) where
+  abbrev places : List Place
+  places = tetroletPlaces R h w
+
+  same-plane : (A B : Image)
+      → ((y x : ℕ) → y < halved R h → x < halved R w → A y x ≡ B y x)
+      → ((m : ℕ) → m < length places → at A (getD places m none) ≡ at B (getD places m none))
+      → sliceOf h w A ≡ sliceOf h w B
+  same-plane A B low tetrolet = slice-of h w B (sliceOf h w A) (slice-length h w A) (λ y x k l. image-slice h w A y x k l ∙ go y x (entry-cases 0 R h w f y x k l))
+    where
+      go : (y x : ℕ) → ((y < halved R h) × (x < halved R w)) ⊎ ((m : ℕ) × (m < length places) × ((getD places m none) .down ≡ y) × ((getD places m none) .across ≡ x)) → A y x ≡ B y x
+      go y x (inl i) = low y x (i .0) (i .1)
+      go y x (inr r) = (λ t. A (sym (r .2) t) (sym (r .3) t)) ∙ tetrolet (r .0) (r .1) ∙ (λ t. B ((r .2) t) ((r .3) t))
+
+  -- selections that leave the same at each place
+  pub same-selected : (a b : ℕ → Bool) (P : Image)
+      → ((m : ℕ) → m < length places → cond (a m) (at P (getD places m none)) (pos 0) ≡ cond (b m) (at P (getD places m none)) (pos 0))
+      → sliceOf h w (select R h w a P) ≡ sliceOf h w (select R h w b P)
+  same-selected a b P e =
+      same-plane (select R h w a P) (select R h w b P)
+      (λ y x k l. select-low R h w a P y x k l ∙ sym (select-low R h w b P y x k l))
+      (λ m l. select-places 0 R h w f a P m l ∙ e m l ∙ sym (select-places 0 R h w f b P m l))
+
+  -- a selection of the slice that a selection left
+  module _ (a : ℕ → Bool) (P : Image) where
+    abbrev left : Image
+    left = imageOf h (sliceOf h w (select R h w a P))
+
+    pub left-at : (m : ℕ) → m < length places → at left (getD places m none) ≡ cond (a m) (at P (getD places m none)) (pos 0)
+    left-at m l = at-cong R h w f left (select R h w a P) (image-slice h w (select R h w a P)) m l ∙ select-places 0 R h w f a P m l
+
+    pub selected-again : (b c : ℕ → Bool)
+        → ((m : ℕ) → m < length places → cond (b m) (cond (a m) (at P (getD places m none)) (pos 0)) (pos 0) ≡ cond (c m) (at P (getD places m none)) (pos 0))
+        → sliceOf h w (select R h w b left) ≡ sliceOf h w (select R h w c P)
+    selected-again b c e =
+        same-plane (select R h w b left) (select R h w c P)
+        (λ y x k l.
+        select-low R h w b left y x k l
+        ∙ image-slice h w (select R h w a P) y x (omega (arith, halved-le R h)) (omega (arith, halved-le R w))
+        ∙ select-low R h w a P y x k l ∙ sym (select-low R h w c P y x k l))
+        (λ m l.
+        select-places 0 R h w f b left m l
+        ∙ ap (λ (z : ℤ). cond (b m) z (pos 0)) (left-at m l) ∙ e m l ∙ sym (select-places 0 R h w f c P m l))
 
 -- a selection leaves the low-pass
 low-cong : (R h w : ℕ) (f g : ℕ → ℕ → ℕ) → ((y x : ℕ) → f y x ≡ g y x) → lowTotal R h w f ≡ lowTotal R h w g

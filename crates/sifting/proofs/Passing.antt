@@ -23,7 +23,7 @@ use Rattle.pyramid.specs.Slices.{imageOf, sliceOf}
 use Rattle.pyramid.proofs.Places.{none, places-inside, places-levels, sum-numbers}
 use Rattle.pyramid.proofs.Number.{later, numberAt, number-place, entry-cases}
 use Rattle.pyramid.proofs.Ranges.{halved-le}
-use Rattle.pyramid.proofs.Slices.{image-slice, slice-length, slice-of}
+use Rattle.pyramid.proofs.Slices.{image-slice, slice-of}
 use Rattle.pyramid.proofs.Whole.{ranged}
 use Rattle.places.specs.declared.walk.Walk.{Walk}
 use Rattle.places.specs.Walk.{entriesLeft, entryOf, indexIn}
@@ -106,24 +106,6 @@ module _ (R h w : ℕ) (f : Fits R h w) where
                 (λ j a b e. let d = spots-differ (r .0) j (r .1) b e in omega arith)
                 ∙ sym (select-places 0 R h w f stay P (r .0) (r .1))
                 ∙ (λ t. select R h w stay P ((r .2) t) ((r .3) t))
-
--- selections that leave the same at each place
-pub same-selected : (R h w : ℕ) → Fits R h w → (a b : ℕ → Bool) (P : Image)
-    → ((m : ℕ) → m < length (tetroletPlaces R h w) → cond (a m) (at P (getD (tetroletPlaces R h w) m none)) (pos 0) ≡ cond (b m) (at P (getD (tetroletPlaces R h w) m none)) (pos 0))
-    → sliceOf h w (select R h w a P) ≡ sliceOf h w (select R h w b P)
-same-selected R h w f a b P e =
-    slice-of h w (select R h w b P) (sliceOf h w (select R h w a P)) (slice-length h w (select R h w a P))
-    (λ y x k l. image-slice h w (select R h w a P) y x k l ∙ go y x (entry-cases 0 R h w f y x k l))
-  where
-    ps : List Place
-    ps = tetroletPlaces R h w
-
-    go : (y x : ℕ) → ((y < halved R h) × (x < halved R w)) ⊎ ((m : ℕ) × (m < length ps) × ((getD ps m none) .down ≡ y) × ((getD ps m none) .across ≡ x)) → select R h w a P y x ≡ select R h w b P y x
-    go y x (inl i) = select-low R h w a P y x (i .0) (i .1) ∙ sym (select-low R h w b P y x (i .0) (i .1))
-    go y x (inr r) =
-        (λ t. select R h w a P (sym (r .2) t) (sym (r .3) t))
-        ∙ select-places 0 R h w f a P (r .0) (r .1) ∙ e (r .0) (r .1) ∙ sym (select-places 0 R h w f b P (r .0) (r .1))
-        ∙ (λ t. select R h w b P ((r .2) t) ((r .3) t))
 
 -- how many entries a selection leaves that are not zero, where none that stays is zero
 pub count-selected : (R h w : ℕ) → Fits R h w → (stay : ℕ → Bool) (P : Image)

@@ -3,7 +3,8 @@
 // and whether the two agree everywhere, in the answer and in all that stands in the slices after. `within` decomposes with a tolerance; `within 0` has the
 // coder with tolerance 0 beside the coder without one. `listed` and `restore listed` have a list of coverings; `listed 117` has the coder with all 117 listed
 // beside the coder without a list. `join` joins two strips, and counts by the left one; `window` restores a window of a picture. `join flaws` and `window flaws`
-// have calls of which most are refused. Texts and words are compared by `vectors_text`, the smoothing step by `vectors_smooth`.
+// have calls of which most are refused. `keep again` and `cut again` have planes that the coder cuts twice and the second implementation once. Texts and words
+// are compared by `vectors_text`, the smoothing step by `vectors_smooth`.
 mod generated;
 mod joins;
 mod marks;
@@ -24,6 +25,8 @@ fn tell_all(words: &[u8]) {
     tell(b"restore listed", planes::listed_group(words));
     tell(b"keep", marks::keep_group());
     tell(b"threshold", marks::threshold_group());
+    tell(b"keep again", marks::keep_again_group());
+    tell(b"cut again", marks::cut_again_group());
     tell(b"test image", generated::group());
     tell(b"join", joins::group());
     tell(b"join flaws", joins::flawed_group());
