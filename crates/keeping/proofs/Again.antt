@@ -42,7 +42,7 @@ larger f a b x y = go (decLt a b)
 alike : {A : Type 0} {n m : ℕ} {a b : A} (x y s t : A) → n ≡ 0 → m ≡ 0 → x ≡ y → a ≡ afterCall n x s → b ≡ afterCall m y t → a ≡ b
 alike x y s t z o e g h = g ∙ went (sym z) x s ∙ e ∙ sym (h ∙ went (sym o) y t)
 
--- an entry that keeps the entries of a plane that pass a test; k is its quota or threshold, and last what its last check gives
+-- calls that leave the entries of a plane that pass a test; k is the quota or the threshold, and last what the last check gives
 module _ (height width levels : ℕ) (last : ℕ → ℕ) (stay : ℕ → List ℤ → ℕ → Bool) where
   abbrev left : ℕ → List ℤ → List ℤ
   left k p = sliceOf height width (select levels height width (stay k p) (imageOf height p))
@@ -52,7 +52,7 @@ module _ (height width levels : ℕ) (last : ℕ → ℕ) (stay : ℕ → List �
     pub planes : p′ ≡ afterCall n (left k p) p
     pub counts : c ≡ afterCall n (entriesOf levels height width (left k p)) 0
 
-  -- what it leaves of a plane that passed passes
+  -- what is left of a plane that passed the checks in front passes them
   ready-again : (k : ℕ) (p : List ℤ) → Ready height width levels p → Ready height width levels (left k p)
   ready-again k p r = record {
     sided = r .sided;
@@ -71,10 +71,10 @@ module _ (height width levels : ℕ) (last : ℕ → ℕ) (stay : ℕ → List �
       let r : Ready height width levels p = front height width levels p (last a) (sym x) .0 in
       let one = first .number ∙ x in
       let is : p₁ ≡ left a p = first .planes ∙ went (sym one) _ p in
-      let passes : planeRefusal height width levels p₁ (last b) ≡ 0 =
+      let accepted : planeRefusal height width levels p₁ (last b) ≡ 0 =
           ap (λ (q : List ℤ). planeRefusal height width levels q (last b)) is
           ∙ front-passes height width levels (left a p) (ready-again a p r) (last b) ∙ sym (front-passes height width levels p r (last b)) ∙ y in
-      let two = second .number ∙ passes in
+      let two = second .number ∙ accepted in
       let three = single .number ∙ z in
       let same : left b p₁ ≡ left k p = ap (left b) is ∙ e (sized r .fits) in
       (one, two, three, alike _ _ p₁ p two three same (second .planes) (single .planes), alike _ _ 0 0 two three (ap (entriesOf levels height width) same) (second .counts) (single .counts))
