@@ -72,8 +72,8 @@ module _ (height width levels : ℕ) (last : ℕ → ℕ) (stay : ℕ → List �
       let one = first .number ∙ x in
       let is : p₁ ≡ left a p = first .planes ∙ went (sym one) _ p in
       let accepted : planeRefusal height width levels p₁ (last b) ≡ 0 =
-          ap (λ (q : List ℤ). planeRefusal height width levels q (last b)) is
-          ∙ front-passes height width levels (left a p) (ready-again a p r) (last b) ∙ sym (front-passes height width levels p r (last b)) ∙ y in
+      ap (λ (q : List ℤ). planeRefusal height width levels q (last b)) is
+      ∙ front-passes height width levels (left a p) (ready-again a p r) (last b) ∙ sym (front-passes height width levels p r (last b)) ∙ y in
       let two = second .number ∙ accepted in
       let three = single .number ∙ z in
       let same : left b p₁ ≡ left k p = ap (left b) is ∙ e (sized r .fits) in
