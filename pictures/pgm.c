@@ -1,7 +1,8 @@
-/* Images in PGM files to sheets and back, windows of sheets, sheets smoothed, two sheets joined, and test images.
+/* Images in PGM files to sheets and back, sheets of masters, windows of sheets, sheets smoothed, two sheets joined, and test images.
 
    pgm to-sheet LEVELS QUOTA <in.pgm >out.sheet    P2 or P5, maxval up to 4095, of a height and a width that the library accepts
    pgm to-pgm [MAXVAL]       <in.sheet >out.pgm    P5; MAXVAL, 4095 where it is not given, is that of the original
+   pgm master [MAXVAL]       <in.sheet >out.pgm    P5: what to-pgm gives, where no sample had to be rounded or held
    pgm window TOP LEFT HEIGHT WIDTH [MAXVAL] <in.sheet >out.pgm    P5: the window alone, which is what to-pgm gives there
    pgm smooth STEP [MAXVAL]  <in.sheet >out.pgm    P5: the image after one smoothing step, 0 to 255; 0 gives what to-pgm gives
    pgm join LEFT RIGHT       >out.sheet            the sheets of two neighbouring strips; LEFT and RIGHT are file names
@@ -11,7 +12,7 @@
    A refusal is printed as the cutter prints it: `refusal`, then the number, and the exit status is 1. A file that is no PGM file is 9;
    a maxval over 4095 is 4. Their order is that of the cutter: 9 on the header, 1, 2, 9 on all that follows, 4, 7. To join, first the left
    sheet is read, then the right one, each with the refusals of a sheet; then come those of joining. A window that has no cell or reaches past the
-   image is 17, and a step over 255 is 19, both after those of a sheet. */
+   image is 17, a step over 255 is 19, and a sheet that is no master's is 20, all after those of a sheet. */
 #include "image.h"
 #include "smoothed.h"
 #include "tetrolet.h"
@@ -30,6 +31,7 @@ static int refuse(uint32_t number)
 static int use(void)
 {
     fprintf(stderr, "use: pgm to-sheet LEVELS QUOTA <in.pgm >out.sheet\n     pgm to-pgm [MAXVAL] <in.sheet >out.pgm\n"
+                    "     pgm master [MAXVAL] <in.sheet >out.pgm\n"
                     "     pgm window TOP LEFT HEIGHT WIDTH [MAXVAL] <in.sheet >out.pgm\n"
                     "     pgm smooth STEP [MAXVAL] <in.sheet >out.pgm\n"
                     "     pgm join LEFT RIGHT >out.sheet\n     pgm columns FIRST COUNT <in.pgm >out.pgm\n"
@@ -155,13 +157,16 @@ static uint32_t take_sheet(FILE *in, struct strip *s)
     return n;
 }
 
-static int to_pgm(unsigned maxval)
+/* tetrolet_restore, or tetrolet_restore_master, which has the same parameters. */
+typedef uint32_t restoring(size_t height, size_t width, size_t levels, const int64_t *plane, size_t plane_len, const uint8_t *coverings, size_t coverings_len,
+                           int64_t *numerators, size_t numerators_len, uint16_t *samples, size_t samples_len, int64_t *scratch, size_t scratch_len);
+
+static int to_pgm(restoring *restore, unsigned maxval)
 {
     struct strip *s = &strip;
     uint32_t n = take_sheet(stdin, s);
     if (n == 0)
-        n = tetrolet_restore(s->height, s->width, s->levels, s->plane, s->area, s->coverings, s->blocks, numerators, s->area, samples, s->area, scratch,
-                             s->area);
+        n = restore(s->height, s->width, s->levels, s->plane, s->area, s->coverings, s->blocks, numerators, s->area, samples, s->area, scratch, s->area);
     if (n != 0)
         return refuse(n);
     if (!pgm_write(stdout, samples, s->height, s->width, maxval))
@@ -254,10 +259,10 @@ int main(int argc, char **argv)
     unsigned long long a = 0, b = 0, c = 0, d = 0, e = 4095;
     if (argc == 4 && !strcmp(argv[1], "to-sheet") && argument(argv[2], &a) && argument(argv[3], &b))
         return to_sheet(a, b);
-    if (argc == 2 && !strcmp(argv[1], "to-pgm"))
-        return to_pgm(4095);
-    if (argc == 3 && !strcmp(argv[1], "to-pgm") && argument(argv[2], &a) && a >= 1 && a <= 4095)
-        return to_pgm((unsigned)a);
+    if ((argc == 2 || argc == 3) && !strcmp(argv[1], "to-pgm") && (argc == 2 || argument(argv[2], &e)) && e >= 1 && e <= 4095)
+        return to_pgm(tetrolet_restore, (unsigned)e);
+    if ((argc == 2 || argc == 3) && !strcmp(argv[1], "master") && (argc == 2 || argument(argv[2], &e)) && e >= 1 && e <= 4095)
+        return to_pgm(tetrolet_restore_master, (unsigned)e);
     if ((argc == 6 || argc == 7) && !strcmp(argv[1], "window") && argument(argv[2], &a) && argument(argv[3], &b) && argument(argv[4], &c)
         && argument(argv[5], &d) && (argc == 6 || argument(argv[6], &e)) && e >= 1 && e <= 4095)
         return window(a, b, c, d, (unsigned)e);

@@ -1,6 +1,6 @@
 #!/usr/bin/env bash
 # Builds the picture programs; makes the synthetic veneer and the pictures of what a quota leaves of it and of a smoothing step, and compares them with
-# those kept here; turns the veneer, and two strips of it, into a sheet and back; cuts windows out of its sheet; smooths its sheet; makes a test image from a number, the one that every site has;
+# those kept here; turns the veneer, and two strips of it, into a sheet and back; restores its whole sheet as a master; cuts windows out of its sheet; smooths its sheet; makes a test image from a number, the one that every site has;
 # prints what a tolerance and a list of coverings do to the veneer and to the test image; joins the sheets of the veneer's halves.
 # Needs a C compiler. With --built the library is taken as it stands.
 set -eu
@@ -49,6 +49,12 @@ target/pictures/smooth $levels $quota <pictures/veneer.pgm
 
 target/pictures/pgm to-sheet $levels $whole <pictures/veneer.pgm | target/pictures/pgm to-pgm | cmp - pictures/veneer.pgm
 echo "the whole quota, $whole, gives the picture back"
+
+# The whole sheet is a master's; the kept one is refused.
+target/pictures/pgm to-sheet $levels $whole <pictures/veneer.pgm | target/pictures/pgm master | cmp - pictures/veneer.pgm
+refused=$(target/pictures/pgm master <target/pictures/veneer.sheet || true)
+[ "$refused" = $'refusal\n20' ]
+echo "as a master too; what a quota of $quota leaves is refused as one"
 
 for strip in '64 256 5' '512 4 1'; do
     read -r height width levels <<<"$strip"

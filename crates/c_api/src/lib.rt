@@ -14,6 +14,7 @@ ghost use Rattle.strips.specs.Strip.{stripOf};
 ghost use Rattle.joining.specs.Entries.{Joined};
 ghost use Rattle.viewer.specs.Window.{viewOf, Viewed};
 ghost use Rattle.smoothing.specs.Entry.{Smoothed};
+ghost use Rattle.mastering.specs.Entry.{RestoredMaster};
 ghost use Rattle.generator.specs.Generator.{Generated};
 use refusals::Counted;
 use sheet::Reading;
@@ -142,6 +143,32 @@ pub extern "C" fn tetrolet_restore_listed(
         plane,
         coverings,
         list,
+        numerators,
+        samples,
+        scratch,
+    ))
+}
+
+// Restores a master, whose numerators are 4^R times whole samples.
+#[no_mangle]
+pub extern "C" fn tetrolet_restore_master(
+    height: usize,
+    width: usize,
+    levels: usize,
+    plane: &[i64],
+    coverings: &[u8],
+    numerators: &mut [i64],
+    samples: &mut [u16],
+    scratch: &mut [i64],
+) -> u32
+    ensures { λ n. ⌜ RestoredMaster (stripOf height width levels (now (plane .entry)) (now (coverings .entry))) (now (numerators .entry)) (now (numerators .exit)) (now (samples .entry)) (now (samples .exit)) (now (scratch .entry)) (now (scratch .exit)) n ⌝ }
+{
+    refusals::code(mastering::restore_master(
+        height,
+        width,
+        levels,
+        plane,
+        coverings,
         numerators,
         samples,
         scratch,

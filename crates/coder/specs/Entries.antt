@@ -64,12 +64,17 @@ frameRefusal height width levels plane coverings numerators samples scratch rest
     (refuseIf (not (isPlane height width plane && (isCoverings levels height width coverings && (isPlane height width numerators && (isPlane height width samples && isPlane height width scratch))))) 3
     rest)
 
-abbrev pub restoreRefusal : ℕ → ℕ → ℕ → List ℤ → List ℕ → List ℤ → List ℕ → List ℤ → ℕ
-restoreRefusal height width levels plane coverings numerators samples scratch =
+-- All five. Behind them go the others.
+abbrev pub restorableRefusal : ℕ → ℕ → ℕ → List ℤ → List ℕ → List ℤ → List ℕ → List ℤ → ℕ → ℕ
+restorableRefusal height width levels plane coverings numerators samples scratch rest =
     frameRefusal height width levels plane coverings numerators samples scratch
     (refuseIf (not (every isNumber coverings)) 5
     (refuseIf (not (inRange levels height width (imageOf height plane))) 6
-    0))
+    rest))
+
+-- There are none.
+abbrev pub restoreRefusal : ℕ → ℕ → ℕ → List ℤ → List ℕ → List ℤ → List ℕ → List ℤ → ℕ
+restoreRefusal height width levels plane coverings numerators samples scratch = restorableRefusal height width levels plane coverings numerators samples scratch 0
 
 -- "Numerators are given beside samples."
 pub record Restored (height width levels : ℕ) (plane : List ℤ) (coverings : List ℕ) (numerators numerators′ : List ℤ) (samples samples′ : List ℕ) (scratch scratch′ : List ℤ) (n : ℕ) : Type 0 where

@@ -14,7 +14,7 @@ use Rattle.pyramid.specs.Slices.{numeratorsOf, samplesOf}
 use Rattle.quota.specs.Quota.{quotaLimit}
 use Rattle.coder.specs.Claims.{Left}
 use Rattle.coder.specs.Entries.{restoreRefusal, Restored}
-use Rattle.coder.proofs.Gates.{restored-passes, restores}
+use Rattle.coder.proofs.Gates.{restoring, restored-passes}
 use Rattle.keeping.specs.Entries.{planeRefusal, keepRefusal, cutRefusal}
 use Rattle.keeping.proofs.Checks.{front-passes}
 use Rattle.sheet_text.specs.Sheet.{sheetText, writeRefusal}
@@ -50,10 +50,6 @@ module _ (s : Strip) (a : Passes s) where
   ranged : isRanged s ≡ true
   ranged = is-true (isRanged s) (a .ranges)
 
-  pub restoring : (numerators scratch : List ℤ) (samples : List ℕ) → length numerators ≡ s .width * s .height → length samples ≡ s .width * s .height → length scratch ≡ s .width * s .height
-      → restoreRefusal (s .height) (s .width) (s .levels) (s .plane) (s .coverings) numerators samples scratch ≡ 0
-  restoring numerators scratch samples b c d = restores (s .height) (s .width) (s .levels) (s .plane) (s .coverings) numerators samples scratch sided deep (a .frame .0) (a .frame .1) b c d numbered ranged
-
   checked : (rest : ℕ) → planeRefusal (s .height) (s .width) (s .levels) (s .plane) rest ≡ rest
   checked = front-passes (s .height) (s .width) (s .levels) (s .plane) (record { sided = sided; deep = deep; long = a .frame .0; range = ranged })
 
@@ -69,7 +65,6 @@ module _ (s : Strip) (a : Passes s) where
       refuseIf (not (sided i)) 1 (refuseIf (not (deep i)) 2 (refuseIf (not (long i && covered i)) 3 (refuseIf (not (numbered i)) 5 (refuseIf (not (ranged i)) 6
       (refuseIf (false-at (length buffer) (length (sheetText (s .height) (s .width) (s .levels) (s .plane) (s .coverings))) l i) 10 0)))))
 
--- a strip that restoring accepts passes
 -- ---- two strips
 
 module _ (R h w : ℕ) (p q : List ℤ) (l r : List ℕ) (a : Passes (stripOf h w R p l)) (b : Passes (stripOf h w R q r)) (narrow : w + w ≤ 512) where

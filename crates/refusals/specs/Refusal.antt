@@ -2,7 +2,7 @@
 use mathlib.Core.Bool.{Bool, true, false}
 use Prim.Native.Nat.{ℕ, zero, suc}
 use Rattle.refusals.specs.declared.Refusal.{Refusal}
-use Rattle.refusals.specs.declared.Refusal.the-variants.{Side, Depth, Frame, Sample, Covering, Coefficient, Quota, Threshold, Text, Buffer, Sequence, Bench, Tolerance, Listing, Mismatch, JoinedWidth, Window, Unlisted, Step}
+use Rattle.refusals.specs.declared.Refusal.the-variants.{Side, Depth, Frame, Sample, Covering, Coefficient, Quota, Threshold, Text, Buffer, Sequence, Bench, Tolerance, Listing, Mismatch, JoinedWidth, Window, Unlisted, Step, Master}
 use Rattle.refusals.specs.declared.Answer.{Answer}
 use Rattle.refusals.specs.declared.Answer.the-variants.{Done, Refused}
 use Rattle.refusals.specs.declared.Counted.{Counted}
@@ -29,6 +29,7 @@ numberOf JoinedWidth = 16
 numberOf Window = 17
 numberOf Unlisted = 18
 numberOf Step = 19
+numberOf Master = 20
 
 -- The number of an answer: 0 where the call is accepted.
 abbrev pub answerOf : Answer → ℕ

@@ -24,6 +24,7 @@ pub enum Refusal {
     Window, // 17, window
     Unlisted, // 18, unlisted
     Step, // 19, step
+    Master, // 20, master
 }
 
 // The answer of an entry that gives nothing but what it leaves in the slices.
@@ -62,6 +63,7 @@ pub fn number(r: Refusal) -> u8
         Refusal::Window => 17,
         Refusal::Unlisted => 18,
         Refusal::Step => 19,
+        Refusal::Master => 20,
     }
 }
 
