@@ -1,17 +1,21 @@
--- The values of a block stored by pieces are those stored by cells: each cell is the cell of one piece and place. Assumes nothing.
-use mathlib.Core.Path.{_≡_, sym, ap, _∙_, subst}
+-- The values of a block stored by pieces are those stored by cells: each cell is the cell of one piece and place; so a test of all of them may go by pieces.
+-- Assumes nothing.
+use mathlib.Core.Path.{_≡_, refl, sym, ap, _∙_, subst, subst⁻¹}
 use mathlib.Core.List.{List}
-use mathlib.Core.Logic.{_⊎_, inl, inr}
+use mathlib.Core.Bool.{Bool}
+use mathlib.Core.Logic.{_⊎_, inl, inr, _↔_}
 use Prim.Native.Nat.{ℕ, zero, suc, _+_, _*_, _/_, _%_, _<_, _≤_}
 use native.Mathlib.Nat.{not-suc-le-zero}
 use native.Mathlib.Omega.{arith}
 use native.Mathlib.Decide.{ℕ-discrete}
+use lib.Dec.{T}
 use lib.IntN.{ℤ, pos}
 use lib.ListN.{length, getD}
 use lib.Seq.{ext-getD}
-use Rattle.integers.specs.Lists.{tabulate}
+use Rattle.integers.specs.Lists.{tabulate, every}
 use Rattle.integers.proofs.Tabulate.{length-tabulate, getD-tabulate}
 use Rattle.integers.proofs.Index.{same-place}
+use Rattle.integers.proofs.Tests.{every-at, every-of}
 use Rattle.slices.specs.Stores.{scatter}
 use Rattle.slices.proofs.Stores.{scatter-in, scatter-out, scatter-length}
 use Rattle.coverings.specs.Rule.{Number}
@@ -44,6 +48,25 @@ inverse-at n t m a l =
   where
     each : (a : ℕ) → a < 16 → at (tabulate 16 (λ a. at (piecewise t) (numberOf n a))) a ≡ at (piecewise t) (numberOf n a)
     each a l = getD-tabulate 16 (λ a. at (piecewise t) (numberOf n a)) (pos 0) a l
+
+-- a test of each value does not look at their order
+sixteen-cells : (n : ℕ) (t : List ℤ) → length (inverseOf n t) ≡ 16
+unfolding inverseOf
+sixteen-cells n t = refl
+
+pub sixteen-pieces : (t : List ℤ) → length (piecewise t) ≡ 16
+unfolding piecewise
+sixteen-pieces t = refl
+
+pub every-piece : (f : ℤ → Bool) (n : ℕ) (t : List ℤ) → Number n → T (every f (piecewise t)) ↔ T (every f (inverseOf n t))
+every-piece f n t m = (
+  (λ p. every-of f (inverseOf n t) (pos 0) (λ a l. let k : a < 16 = omega (arith, sixteen-cells n t) in subst⁻¹ (λ (z : ℤ). T (f z)) (inverse-at n t m a k) (every-at f (piecewise t) (pos 0) p (numberOf n a) (omega (arith, sixteen-pieces t, number-below n a m k))))),
+  (λ p. every-of f (piecewise t) (pos 0)
+      (λ k l.
+      let here : k < 16 = omega (arith, sixteen-pieces t) in
+      let e : at (inverseOf n t) (cellAt n k) ≡ at (piecewise t) k = inverse-at n t m (cellAt n k) (cell-below n k) ∙ ap (at (piecewise t)) (number-cell n k m here) in
+      subst (λ (z : ℤ). T (f z)) e (every-at f (inverseOf n t) (pos 0) p (cellAt n k) (omega (arith, sixteen-cells n t, cell-below n k))))),
+)
 
 module _ (h start n : ℕ) (t l : List ℤ) (m : Number n) (tall : 4 ≤ h) (room : start + 3 * h + 3 < length l) where
   abbrev cell : ℕ → ℕ

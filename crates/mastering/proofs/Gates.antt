@@ -86,6 +86,10 @@ module _ (s : Strip) (numerators : List ℤ) (samples : List ℕ) (scratch : Lis
   numbered : T (isNumbered s) → isNumbered s ≡ true
   numbered t = is-true (isNumbered s) t
 
+  -- 6 goes before 20
+  range-first : T (isSided s) → T (isDeep s) → Framed s → Exact s numerators samples scratch → T (isNumbered s) → (T (isRanged s) → ⊥) → masterRefusal s numerators samples scratch ≡ 6
+  range-first a b c e n f i = chain (sided a i) (deep b i) (in-frame c e i) (numbered n i) (is-false (isRanged s) f i) (refuseIf (not wholes) 20 0)
+
   -- where the checks of restoring pass, the last one is left
   last : Passes s → Exact s numerators samples scratch → masterRefusal s numerators samples scratch ≡ refuseIf (not wholes) 20 0
   last p e i = chain (sided (p .sides) i) (deep (p .depth) i) (in-frame (p .frame) e i) (numbered (p .numbers) i) (is-true (isRanged s) (p .ranges) i) (refuseIf (not wholes) 20 0)
@@ -96,7 +100,7 @@ module _ (s : Strip) (numerators : List ℤ) (samples : List ℕ) (scratch : Lis
     depth = λ a f i. chain (sided a i) (is-false (isDeep s) f i) framed (isNumbered s) (isRanged s) (refuseIf (not wholes) 20 0);
     frame = λ a b f i. chain (sided a i) (deep b i) (off-frame f i) (isNumbered s) (isRanged s) (refuseIf (not wholes) 20 0);
     covering = λ a b c e f i. chain (sided a i) (deep b i) (in-frame c e i) (is-false (isNumbered s) f i) (isRanged s) (refuseIf (not wholes) 20 0);
-    coefficient = λ a b c e n f i. chain (sided a i) (deep b i) (in-frame c e i) (numbered n i) (is-false (isRanged s) f i) (refuseIf (not wholes) 20 0);
+    coefficient = range-first;
     master = λ p e k l f. last p e ∙ ap (λ (b : Bool). refuseIf (not b) 20 0) (one-not k l f);
     accepted = λ p e f. last p e ∙ ap (λ (b : Bool). refuseIf (not b) 20 0) (all-whole f);
   }

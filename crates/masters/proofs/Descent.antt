@@ -12,11 +12,14 @@ use lib.ListN.{length, getD}
 use Rattle.integers.specs.Lists.{every}
 use Rattle.integers.proofs.Index.{index-bound, index-place}
 use Rattle.integers.proofs.Tests.{every-at, every-of}
+use Rattle.coverings.specs.Rule.{Number}
+use Rattle.kernel.specs.Kernel.{inverseOf, piecewise}
 use Rattle.pyramid.specs.Plane.{Image, Fits, halved, listed, numerators}
 use Rattle.pyramid.specs.Slices.{imageOf, numeratorsOf}
 use Rattle.pyramid.specs.Behind.{blockList}
 use Rattle.pyramid.proofs.Behind.{block-at}
 use Rattle.pyramid.proofs.Slices.{slice-at, slice-length, image-slice}
+use Rattle.grid.proofs.Pieces.{every-piece}
 use Rattle.blockwise.specs.declared.Node.{Node}
 use Rattle.blockwise.specs.Cells.{AllIn}
 use Rattle.blockwise.proofs.Cells.{cell-at, Halves, down, across, cell-below, cell-inside}
@@ -36,7 +39,7 @@ pub told : (m : Node) (cs : List ℕ) (plane : List ℤ) {r : Node} → r ≡ m 
 told m cs plane e t f = subst (λ (r : Node). T t ↔ AllIn (r .level - 1) (WholeAt (r .levels) (r .height) (r .width) cs plane) (r .i) (r .j)) e f
 
 -- ---- sixteen values
-pub sixteen-long : (A : Image) (i j : ℕ) → length (blockList A i j) ≡ 16
+sixteen-long : (A : Image) (i j : ℕ) → length (blockList A i j) ≡ 16
 unfolding blockList
 sixteen-long A i j = refl
 
@@ -47,13 +50,19 @@ module _ (f : ℤ → Bool) (A : Image) (i j : ℕ) where
     (λ all. every-of f (blockList A i j) (pos 0) (λ a l. subst⁻¹ (λ (z : ℤ). T (f z)) (block-at A i j a (omega (arith, sixteen-long A i j))) (all (i * 4 + a % 4) (j * 4 + a / 4) (omega arith) (omega (arith, sixteen-long A i j))))),
   )
 
-pub top-says : (k : Node) (cs : List ℕ) (plane : List ℤ) → k .level ≡ 1 → {b : Bool}
-    → b ≡ every (isWhole (k .levels)) (blockList (numerators (k .levels) (k .height) (k .width) (listed cs) (imageOf (k .height) plane)) (k .i) (k .j))
-    → (T b ↔ AllIn (k .level - 1) (WholeAt (k .levels) (k .height) (k .width) cs plane) (k .i) (k .j))
-top-says k cs plane e {b} f =
+-- a block of the first level, by the values of its pieces
+pub top-says : (k : Node) (cs : List ℕ) (plane : List ℤ) → k .level ≡ 1 → {n : ℕ} (t : List ℤ) → Number n
+    → inverseOf n t ≡ blockList (numerators (k .levels) (k .height) (k .width) (listed cs) (imageOf (k .height) plane)) (k .i) (k .j)
+    → {b : Bool} → b ≡ every (isWhole (k .levels)) (piecewise t) → (T b ↔ AllIn (k .level - 1) (WholeAt (k .levels) (k .height) (k .width) cs plane) (k .i) (k .j))
+top-says k cs plane one {n} t m e {b} f =
     let none : k .level - 1 ≡ 0 = omega arith in
     let s = sixteen (isWhole (k .levels)) (numerators (k .levels) (k .height) (k .width) (listed cs) (imageOf (k .height) plane)) (k .i) (k .j) in
-    rw (none, f) s
+    let p = every-piece (isWhole (k .levels)) n t m in
+    let q : T (every (isWhole (k .levels)) (piecewise t)) ↔ AllIn 0 (WholeAt (k .levels) (k .height) (k .width) cs plane) (k .i) (k .j) = (
+      (λ x. s .0 (subst (λ (l : List ℤ). T (every (isWhole (k .levels)) l)) e (p .0 x))),
+      (λ x. p .1 (subst⁻¹ (λ (l : List ℤ). T (every (isWhole (k .levels)) l)) e (s .1 x))),
+    ) in
+    rw (none, f) q
 
 -- ---- the blocks of the last level
 module _ (R h w : ℕ) (some : 1 ≤ R) (fits : Fits R h w) (P : ℕ → ℕ → Type 0) where

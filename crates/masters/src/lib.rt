@@ -56,7 +56,8 @@ fn sixteen_whole(v: &[i64; 16], levels: usize, unit: u64) -> bool
     true
 }
 
-// Whether the numerators of a block are whole: its values at the first level, and those of its four blocks below at any other.
+// Whether the numerators of a block are whole: its values at the first level, in the order of its pieces, which does not matter; and those of its four blocks
+// below at any other.
 // Two wrong answers that the contract rules out: yes by the values of a deeper level; and yes where one block below was left out.
 fn whole_in(
     cells: &[u8; 1872],
@@ -71,10 +72,12 @@ fn whole_in(
     requires { ⌜ low ≡ quadOf (behind k (k .level) (now coverings) (now plane)) (k .i) (k .j) ⌝ }
     ensures { λ r. ⌜ (T r ↔ AllIn (k .level - 1) (WholeAt (k .levels) (k .height) (k .width) (now (coverings .entry)) (now (plane .entry))) (k .i) (k .j)) ⌝ }
 {
-    let v = blockwise::values(cells, plane, coverings, k, low);
+    let results = blockwise::results(plane, k, low);
     if k.level == 1 {
-        return sixteen_whole(&v, k.levels, unit);
+        let pieces = kernel::transform::by_labels(results);
+        return sixteen_whole(&pieces, k.levels, unit);
     }
+    let v = blockwise::values(cells, coverings, k, results);
     let mut q: usize = 0;
     while q < 4 {
         let below = blockwise::child(k, q);

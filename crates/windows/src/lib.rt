@@ -233,7 +233,8 @@ fn fill(
     if !touches(v, k.level - 1, k.i, k.j) {
         return;
     }
-    let values = blockwise::values(cells, plane, coverings, k, low);
+    let results = blockwise::results(plane, k, low);
+    let values = blockwise::values(cells, coverings, k, results);
     if k.level == 1 {
         store_block(&values, v, k.i, k.j, k.levels, unit, samples);
         return;
