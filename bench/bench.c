@@ -153,19 +153,45 @@ static void agree_smoothed(size_t height, size_t width, size_t levels, uint64_t 
     check(step > 0 || same == area, "a plane smoothed by 0 and its numerators", height, width, levels);
 }
 
-/* Whether both restore plane and coverings alike by a list, in which they need not stand. Gives the answer. */
-static uint32_t agree_listed(size_t height, size_t width, size_t levels, const uint8_t *list, size_t count)
+/* The slices that restoring changes: those lent to the C made like those lent to the library, and whether they are alike. */
+static void lend_alike(size_t area)
 {
-    size_t area = height * width, blocks = tetrolet_blocks(height, width, levels), bytes = area * sizeof(int64_t);
+    size_t bytes = area * sizeof(int64_t);
     memcpy(numerators[1], numerators[0], bytes);
     memcpy(samples[1], samples[0], area * sizeof(uint16_t));
     memcpy(scratch[1], scratch[0], bytes);
+}
+
+static int are_alike(size_t area)
+{
+    size_t bytes = area * sizeof(int64_t);
+    return !memcmp(numerators[0], numerators[1], bytes) && !memcmp(samples[0], samples[1], area * sizeof(uint16_t))
+           && !memcmp(scratch[0], scratch[1], bytes);
+}
+
+/* Whether both restore plane and coverings alike by a list, in which they need not stand. Gives the answer. */
+static uint32_t agree_listed(size_t height, size_t width, size_t levels, const uint8_t *list, size_t count)
+{
+    size_t area = height * width, blocks = tetrolet_blocks(height, width, levels);
+    lend_alike(area);
     uint32_t a = tetrolet_restore_listed(height, width, levels, plane[0], area, coverings[0], blocks, list, count, numerators[0], area, samples[0],
                                          area, scratch[0], area);
     uint32_t b = base_restore_listed(height, width, levels, plane[0], area, coverings[0], blocks, list, count, numerators[1], area, samples[1], area,
                                      scratch[1], area);
-    check(a == b && !memcmp(numerators[0], numerators[1], bytes) && !memcmp(samples[0], samples[1], area * sizeof(uint16_t))
-              && !memcmp(scratch[0], scratch[1], bytes), "restorations with a list", height, width, levels);
+    check(a == b && are_alike(area), "restorations with a list", height, width, levels);
+    return a;
+}
+
+/* Whether both restore plane and coverings alike as a master, which they need not be. Gives the answer. */
+static uint32_t agree_master(size_t height, size_t width, size_t levels)
+{
+    size_t area = height * width, blocks = tetrolet_blocks(height, width, levels);
+    lend_alike(area);
+    uint32_t a = tetrolet_restore_master(height, width, levels, plane[0], area, coverings[0], blocks, numerators[0], area, samples[0], area, scratch[0],
+                                         area);
+    uint32_t b = base_restore_master(height, width, levels, plane[0], area, coverings[0], blocks, numerators[1], area, samples[1], area, scratch[1],
+                                     area);
+    check(a == b && are_alike(area), "restorations as a master", height, width, levels);
     return a;
 }
 
@@ -198,6 +224,8 @@ static int agree(size_t height, size_t width, size_t levels, int kind)
         check(a == 0 && b == 0 && !memcmp(plane[0], plane[1], bytes) && !memcmp(coverings[0], coverings[1], blocks)
                   && !memcmp(scratch[0], scratch[1], bytes), "decompositions", height, width, levels);
     }
+    a = agree_master(height, width, levels);
+    check(a == 0 && !memcmp(image, samples[0], area * sizeof *image), "an image and its master", height, width, levels);
     a = tetrolet_keep(height, width, levels, plane[0], area, quota, left);
     b = base_keep(height, width, levels, plane[1], area, quota, left + 1);
     check(a == 0 && b == 0 && left[0] == left[1] && !memcmp(plane[0], plane[1], bytes), "kept planes", height, width, levels);
@@ -219,10 +247,11 @@ static int agree(size_t height, size_t width, size_t levels, int kind)
     check(a == 0 && b == 0 && length[0] == length[1] && !memcmp(buffer[0], buffer[1], length[0]), "usage lists", height, width, levels);
     a = tetrolet_restore(height, width, levels, plane[0], area, coverings[0], blocks, numerators[0], area, samples[0], area, scratch[0], area);
     b = base_restore(height, width, levels, plane[0], area, coverings[0], blocks, numerators[1], area, samples[1], area, scratch[1], area);
-    check(a == 0 && b == 0 && !memcmp(numerators[0], numerators[1], bytes) && !memcmp(samples[0], samples[1], area * sizeof(uint16_t))
-              && !memcmp(scratch[0], scratch[1], bytes), "restorations", height, width, levels);
+    check(a == 0 && b == 0 && are_alike(area), "restorations", height, width, levels);
     a = agree_listed(height, width, levels, sixteen, sizeof sixteen);
     check(a == 0 || a == TETROLET_UNLISTED, "answers with a list", height, width, levels);
+    a = agree_master(height, width, levels);
+    check(a == 0 || a == TETROLET_MASTER, "answers as a master", height, width, levels);
     agree_windows(height, width, levels, plane[0], coverings[0], samples[0]);
     agree_smoothed(height, width, levels, limit * 255 / 63, plane[0], coverings[0], numerators[0]);
     agree_smoothed(height, width, levels, 0, plane[0], coverings[0], numerators[0]);
@@ -247,6 +276,18 @@ static int agree(size_t height, size_t width, size_t levels, int kind)
             (best) = took_;                        \
     } while (0)
 
+/* Planes that are restored as masters: 0 the uncut one; 1 and 2 with one W of level 1 changed, in the last block or in the first, so that no other block
+   is a reason to refuse them. */
+#define MASTERS 3
+static const char *const master_names[MASTERS] = { "master", "20 at last", "20 at first" };
+
+static void make_master(int k, const int64_t *uncut, int64_t *to, size_t area)
+{
+    memcpy(to, uncut, area * sizeof *to);
+    if (k > 0)
+        to[k == 1 ? area - 1 : area / 2]++;
+}
+
 struct times {
     double decompose, straight, shared, within[TOLERANCES], within_straight[TOLERANCES], within_shared[TOLERANCES];
     double listed[LISTS], listed_straight[LISTS], listed_shared[LISTS];
@@ -254,6 +295,7 @@ struct times {
     double restore, base_restore, keep, base_keep, write, digits, printed, read, base_read, usage, base_usage, test, base_test, join, base_join[2];
     double window[WINDOWS], base_window[WINDOWS];
     double kept_write, kept_digits, kept_read, kept_base_read, smooth, base_smooth; /* of the plane that keep leaves */
+    double master[MASTERS], base_master[MASTERS], lenient; /* lenient: the library's ordinary restoring beside them */
 };
 
 /* The best of several rounds. Each round has one call of each entry, so that a busy machine hits all alike. Joined are the two halves of the image, with
@@ -301,6 +343,21 @@ static struct times measure(size_t height, size_t width, size_t levels)
             size_t cells = v.tall * v.wide;
             TIME(t.base_window[k], base_window(height, width, levels, p, area, c, blocks, v.top, v.left, v.tall, v.wide, samples[0], cells));
             TIME(t.window[k], tetrolet_window(height, width, levels, p, area, c, blocks, v.top, v.left, v.tall, v.wide, samples[0], cells));
+        }
+        for (int k = 0; k < MASTERS; k++) {
+            uint32_t answer = k == 0 ? 0 : TETROLET_MASTER;
+            make_master(k, p, q, area);
+            for (int turn = 0; turn < 4; turn++) /* the order turns round, as with the list */
+                switch ((run & 1 ? 3 - turn : turn) % 3) {
+                case 0:
+                    TIME(t.base_master[k], answer != base_restore_master(height, width, levels, q, area, c, blocks, n, area, samples[0], area, w, area));
+                    break;
+                case 1:
+                    TIME(t.master[k], answer != tetrolet_restore_master(height, width, levels, q, area, c, blocks, n, area, samples[0], area, w, area));
+                    break;
+                default:
+                    TIME(t.lenient, tetrolet_restore(height, width, levels, q, area, c, blocks, n, area, samples[0], area, w, area));
+                }
         }
         memcpy(q, p, bytes);
         TIME(t.base_keep, base_keep(height, width, levels, q, area, area / 10, &left));
@@ -364,6 +421,19 @@ static double faster(double one, double other)
     return one < other ? one : other;
 }
 
+/* The rows of masters beside the C; and beside the library's own restore, where the one that passes has a bar. */
+static void masters(const struct times *t)
+{
+    for (int k = 0; k < MASTERS; k++)
+        line(master_names[k], t->master[k], "levels", t->base_master[k], 0);
+}
+
+static void masters_beside_restore(const struct times *t, double bar)
+{
+    for (int k = 0; k < MASTERS; k++)
+        line(master_names[k], t->master[k], "restore", t->lenient, k == 0 ? bar : 0);
+}
+
 /* The rows of a strip. The bars are those of 512 by 512, so it has none. */
 static void strip(size_t height, size_t width, size_t levels)
 {
@@ -379,6 +449,8 @@ static void strip(size_t height, size_t width, size_t levels)
     line("window 64", t.window[2], "descent", t.base_window[2], 0);
     line("window all", t.window[4], "descent", t.base_window[4], 0);
     line("smooth", t.smooth, "plain", t.base_smooth, 0);
+    masters(&t);
+    masters_beside_restore(&t, 0);
 }
 
 #define SHEETS 20000
@@ -511,8 +583,9 @@ int main(int argc, char **argv)
                     joined += (size_t)agree(height, width, levels, kind);
                     strips += height != width;
                 }
-    printf("both agree on %zu images, %zu of them strips, six windows and two smoothing steps of each, and on %zu joined from two strips\n\n", images, strips,
-           joined);
+    printf("both agree on %zu images, %zu of them strips, six windows, two smoothing steps and two restorings as a master of each, and on %zu joined from two "
+           "strips\n\n",
+           images, strips, joined);
 
     struct times t = measure(512, 512, 8);
     head(512, 512, 8);
@@ -550,10 +623,12 @@ int main(int argc, char **argv)
         line(name, t.window[k], "descent", t.base_window[k], k < 3 ? 1.5 : 1.3);
     }
     line("smooth", t.smooth, "plain", t.base_smooth, 1.3);
+    masters(&t);
 
-    printf("\nwindows of it beside the library's own restore, milliseconds\n");
+    printf("\nwindows of it, and restorings as a master, beside the library's own restore, milliseconds\n");
     line("window 64", t.window[2], "restore", t.restore, 1.0 / 3);
     line("window 512", t.window[4], "restore", t.restore, 1.3);
+    masters_beside_restore(&t, 2.5);
 
     strip(512, 64, 5);
     strip(64, 512, 5);

@@ -48,7 +48,8 @@ enum {
     TETROLET_JOINED_WIDTH = 16, /* join: the joined width is over 512 */
     TETROLET_WINDOW = 17,       /* window: it has no cell, or reaches past the image */
     TETROLET_UNLISTED = 18,     /* restore listed: a covering that some block uses is missing from the list */
-    TETROLET_STEP = 19          /* smooth: the step is over 255 */
+    TETROLET_STEP = 19,         /* smooth: the step is over 255 */
+    TETROLET_MASTER = 20        /* restore master: a numerator is not 4^R times a whole number from 0 to 4,095 */
 };
 
 /* The largest counts: samples of an image, coverings of an image, bytes of a sheet, bytes of a usage list. */
@@ -135,6 +136,19 @@ uint32_t tetrolet_restore(size_t height, size_t width, size_t levels, const int6
 uint32_t tetrolet_restore_listed(size_t height, size_t width, size_t levels, const int64_t *plane, size_t plane_len, const uint8_t *coverings,
                                  size_t coverings_len, const uint8_t *list, size_t list_len, int64_t *numerators, size_t numerators_len,
                                  uint16_t *samples, size_t samples_len, int64_t *scratch, size_t scratch_len);
+
+/*
+ * Restores an image from a master, a plane that was never cut. Nothing is rounded and nothing is held to limits: each numerator must be 4^R times a whole
+ * number from 0 to 4,095, and the sample is that number. Where they all are it gives what tetrolet_restore gives; where one is not the answer is 20.
+ * What tetrolet_decompose, tetrolet_decompose_within or tetrolet_decompose_listed left always passes with its own height, width, levels and coverings, and
+ * gives the image back. Any other plane whose numerators are such numbers passes too, cut or not.
+ *   samples    height * width samples, written: numerators / 4^R, exact
+ *   plane, coverings, numerators, scratch    as for tetrolet_restore
+ * Refusals: 1, 2, 3, 5, 6, 20. A call that is refused, by 20 too, changes nothing: numerators, samples and scratch hold what they held.
+ */
+uint32_t tetrolet_restore_master(size_t height, size_t width, size_t levels, const int64_t *plane, size_t plane_len, const uint8_t *coverings,
+                                 size_t coverings_len, int64_t *numerators, size_t numerators_len, uint16_t *samples, size_t samples_len,
+                                 int64_t *scratch, size_t scratch_len);
 
 /*
  * Keeps the first `quota` tetrolet coefficients by falling rank |W| * 2^(R-r), then in plane order; the others become 0.

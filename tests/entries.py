@@ -162,6 +162,7 @@ ENTRIES = {
     "decompose_listed": ("tetrolet_decompose_listed", FRAME + [Number("tolerance", "u64", 0), SAMPLES, LIST] + DECOMPOSED),
     "restore": ("tetrolet_restore", FRAME + [PLANE, COVERS] + RESTORED),
     "restore_listed": ("tetrolet_restore_listed", FRAME + [PLANE, COVERS, LIST] + RESTORED),
+    "restore_master": ("tetrolet_restore_master", FRAME + [PLANE, COVERS] + RESTORED),
     "keep": ("tetrolet_keep", FRAME + [Slice("plane", "i64", of_area), Number("quota", "u64"), Given("left")]),
     "cut": ("tetrolet_threshold", FRAME + [Slice("plane", "i64", of_area), Number("threshold", "u64"), Given("left")]),
     "join": ("tetrolet_join", [Strip("left"), Strip("right"), Slice("plane", "i64", of_joined_area), Slice("covers", "u8", of_joined_blocks)]),
