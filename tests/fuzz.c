@@ -5,8 +5,8 @@
 
    fuzz [CALLS [SEED]]
 
-   Before the random calls, some small sheets are read in every prefix, and with every byte changed to every other value; and large planes are
-   smoothed, most of their entries at the ends of their ranges.
+   Before the random calls, some small sheets are read in every prefix, and with every byte changed to every other value; large planes are
+   smoothed, most of their entries at the ends of their ranges; and large planes are restored as masters, some of which fail in one block alone.
 
    Each slice lent to the library stands flush against a page that may not be touched, before it or after it, so that a read or a
    store outside it ends the program. The two others work on heap blocks of exact length, the plain C under the address sanitizer. */
@@ -160,6 +160,13 @@ static void compare(struct tally *t, uint32_t a, uint32_t b)
         t->refused[a % REFUSALS]++;
 }
 
+/* The slices of the plain C hold again what they held. */
+static void put_back(void)
+{
+    for (int k = 0; k < lent_count; k++)
+        memcpy(lent[k].base, lent[k].old, lent[k].bytes);
+}
+
 /* Compares what one entry of the library left with what another left on the slices of the plain C, which then hold again what they held. */
 static void compare_entries(uint32_t a, uint32_t b)
 {
@@ -167,11 +174,10 @@ static void compare_entries(uint32_t a, uint32_t b)
         printf("the library answers %u and %u\n", a, b);
         differ("answers of two entries differ");
     }
-    for (int k = 0; k < lent_count; k++) {
+    for (int k = 0; k < lent_count; k++)
         if (memcmp(lent[k].lib, lent[k].base, lent[k].bytes) != 0)
             differ("slices of two entries differ");
-        memcpy(lent[k].base, lent[k].old, lent[k].bytes);
-    }
+    put_back();
 }
 
 /* The library may only read this slice. */
@@ -366,6 +372,13 @@ static size_t length_near(size_t n)
     return once_in(50) ? wrong_length(n) : n;
 }
 
+/* Such lengths; those of a call with several flaws are wrong more often. */
+static void lengths_near(size_t *lengths, int count, int flawed)
+{
+    for (int k = 0; k < count; k++)
+        lengths[k] = flawed && once_in(5) ? wrong_length(lengths[k]) : length_near(lengths[k]);
+}
+
 static void fill_samples(uint16_t *p, size_t n)
 {
     uint64_t kind = below(5), range = 1 + below(4096), start = below(4096 - range + 1);
@@ -392,6 +405,13 @@ static void spoil_coverings(uint8_t *p, size_t n)
 {
     if (n > 0 && once_in(30))
         p[below(n)] = bad_covering();
+}
+
+/* Coverings of all kinds, and none that there is not. */
+static void fill_good_coverings(uint8_t *p, size_t n)
+{
+    for (size_t i = 0; i < n; i++)
+        p[i] = (uint8_t)(1 + below(117));
 }
 
 static void fill_coverings(uint8_t *p, size_t n)
@@ -503,15 +523,19 @@ static int lists_all(const struct slice *list)
     return list->len == 117;
 }
 
-/* The plane and the coverings of a random image. */
+/* The plane and the coverings of a random image, decomposed with a tolerance or without one, by all coverings or by a list. */
 static void fill_real(int64_t *p, uint8_t *coverings, struct frame f)
 {
     uint16_t *samples = malloc(f.area * sizeof *samples);
     int64_t *scratch = malloc(f.area * sizeof *scratch);
-    uint64_t range = 1 + below(4096);
+    uint64_t range = 1 + below(4096), tolerance = once_in(2) ? 0 : below(4096);
+    uint8_t list[117];
+    size_t count = once_in(2) ? 117 : list_length();
+    fill_list(list, count);
     for (size_t i = 0; i < f.area; i++)
         samples[i] = (uint16_t)below(range);
-    if (base_decompose(BASE_STRAIGHT, f.made_height, f.made_width, f.made_levels, samples, f.area, p, f.area, coverings, f.blocks, scratch, f.area)
+    if (base_decompose_listed(BASE_STRAIGHT, f.made_height, f.made_width, f.made_levels, tolerance, samples, f.area, list, count, p, f.area, coverings,
+                              f.blocks, scratch, f.area)
         != 0)
         abort();
     free(samples);
@@ -547,6 +571,16 @@ static int64_t most_at(struct frame f, size_t i, int *low)
 static int64_t end_of(int64_t most, int low)
 {
     return once_in(2) ? most : low ? 0 : -most;
+}
+
+/* Entries at the ends of their ranges. Of those that are not of the low-pass, one in `gaps` is 0; none where that is 0. */
+static void fill_ends(int64_t *p, size_t n, struct frame f, uint64_t gaps)
+{
+    for (size_t i = 0; i < n; i++) {
+        int low;
+        int64_t most = most_at(f, i, &low);
+        p[i] = low || gaps == 0 || !once_in(gaps) ? end_of(most, low) : 0;
+    }
 }
 
 /* A plane: of a real image, or random entries up to their ranges; now and then an entry out of range. */
@@ -594,6 +628,17 @@ static void fill_strip(const struct slice *plane, const struct slice *coverings,
         abort();
     spoil_plane(plane->base, plane->len);
     spoil_coverings(coverings->base, coverings->len);
+}
+
+/* In half of the calls with several flaws a covering that there is not; in half an entry out of range. */
+static void flaw_strip(const struct slice *plane, const struct slice *coverings)
+{
+    int64_t *p = plane->base;
+    uint8_t *c = coverings->base;
+    if (coverings->len > 0 && once_in(2))
+        c[below(coverings->len)] = bad_covering();
+    if (plane->len > 0 && once_in(2))
+        p[below(plane->len)] = bad_entry();
 }
 
 /* ---- Texts ---- */
@@ -735,6 +780,21 @@ static void call_word(struct tally *t)
     compare(t, a, base_word(covering, word->base, word->len));
 }
 
+/* What decomposing left passes as a master, and is the image. */
+static void is_master_of(struct frame f, const struct slice *plane, const struct slice *coverings, const struct slice *samples)
+{
+    size_t n = plane->len;
+    int64_t *numerators = malloc(n * sizeof *numerators), *scratch = malloc(n * sizeof *scratch);
+    uint16_t *image = malloc(n * sizeof *image);
+    if (tetrolet_restore_master(f.height, f.width, f.levels, plane->lib, n, coverings->lib, coverings->len, numerators, n, image, n, scratch, n) != 0)
+        differ("what was decomposed does not pass as a master");
+    if (memcmp(image, samples->lib, n * sizeof *image) != 0)
+        differ("what was decomposed is not the image as a master");
+    free(numerators);
+    free(scratch);
+    free(image);
+}
+
 static void call_decompose(struct tally *t)
 {
     struct frame f = make_frame();
@@ -750,6 +810,8 @@ static void call_decompose(struct tally *t)
                                             coverings->plain, coverings->len, scratch->plain, scratch->len));
     compare(t, a, base_decompose((int)below(2), f.height, f.width, f.levels, samples->base, samples->len, plane->base, plane->len,
                                  coverings->base, coverings->len, scratch->base, scratch->len));
+    if (a == 0)
+        is_master_of(f, plane, coverings, samples);
 }
 
 /* A tolerance: none, small ones, the largest, the first that is too large, one whose low bits are a good one, or anything. */
@@ -794,6 +856,8 @@ static void call_within(struct tally *t)
                                                    scratch->len));
     compare(t, a, base_decompose_within((int)below(2), f.height, f.width, f.levels, tolerance, samples->base, samples->len, plane->base,
                                         plane->len, coverings->base, coverings->len, scratch->base, scratch->len));
+    if (a == 0)
+        is_master_of(f, plane, coverings, samples);
 }
 
 /* What decomposing by a list left is restored by that list, and is the image; cut once more, it is restored too. */
@@ -841,26 +905,75 @@ static void call_listed(struct tally *t)
                                                    scratch->len));
     compare(t, a, base_decompose_listed((int)below(2), f.height, f.width, f.levels, tolerance, samples->base, samples->len, list->base, list->len,
                                         plane->base, plane->len, coverings->base, coverings->len, scratch->base, scratch->len));
-    if (a == 0)
+    if (a == 0) {
+        is_master_of(f, plane, coverings, samples);
         is_restored_by(f, list, plane, coverings, samples);
+    }
+}
+
+/* What an entry that restores is lent. */
+struct restoring {
+    struct slice *plane, *coverings, *numerators, *samples, *scratch;
+};
+
+/* Slices of these lengths. */
+static struct restoring lend_restoring(const size_t *lengths)
+{
+    struct restoring s;
+    s.plane = lend(lengths[0], 8);
+    s.coverings = lend(lengths[1], 1);
+    s.numerators = lend(lengths[2], 8);
+    s.samples = lend(lengths[3], 2);
+    s.scratch = lend(lengths[4], 8);
+    return s;
+}
+
+/* Slices of the lengths that the frame asks for, or nearly. */
+static struct restoring lend_near(struct frame f, int flawed)
+{
+    size_t lengths[5] = { f.area, f.blocks, f.area, f.area, f.area };
+    lengths_near(lengths, 5, flawed);
+    return lend_restoring(lengths);
+}
+
+typedef uint32_t restore_entry(size_t height, size_t width, size_t levels, const int64_t *plane, size_t plane_len, const uint8_t *coverings,
+                               size_t coverings_len, int64_t *numerators, size_t numerators_len, uint16_t *samples, size_t samples_len,
+                               int64_t *scratch, size_t scratch_len);
+typedef uint32_t plain_restore_entry(const uint8_t *words, size_t words_len, size_t height, size_t width, size_t levels, const int64_t *plane,
+                                     size_t plane_len, const uint8_t *coverings, size_t coverings_len, int64_t *numerators, size_t numerators_len,
+                                     uint16_t *samples, size_t samples_len, int64_t *scratch, size_t scratch_len);
+
+/* Restores by an entry the slices lent to the library; those lent to the plain C; those lent to the plain second implementation. */
+static uint32_t restore_lib(restore_entry *restore, struct frame f, const struct restoring *s)
+{
+    return restore(f.height, f.width, f.levels, s->plane->lib, s->plane->len, s->coverings->lib, s->coverings->len, s->numerators->lib,
+                   s->numerators->len, s->samples->lib, s->samples->len, s->scratch->lib, s->scratch->len);
+}
+
+static uint32_t restore_base(restore_entry *restore, struct frame f, const struct restoring *s)
+{
+    return restore(f.height, f.width, f.levels, s->plane->base, s->plane->len, s->coverings->base, s->coverings->len, s->numerators->base,
+                   s->numerators->len, s->samples->base, s->samples->len, s->scratch->base, s->scratch->len);
+}
+
+static uint32_t restore_plain(plain_restore_entry *restore, struct frame f, const struct restoring *s)
+{
+    return restore(words, WORDS, f.height, f.width, f.levels, s->plane->plain, s->plane->len, s->coverings->plain, s->coverings->len,
+                   s->numerators->plain, s->numerators->len, s->samples->plain, s->samples->len, s->scratch->plain, s->scratch->len);
 }
 
 static void call_restore(struct tally *t)
 {
     struct frame f = make_frame();
     count_strip(t, f);
-    struct slice *plane = lend(length_near(f.area), 8), *coverings = lend(length_near(f.blocks), 1), *numerators = lend(length_near(f.area), 8),
-                 *samples = lend(length_near(f.area), 2), *scratch = lend(length_near(f.area), 8);
-    fill_plane(plane->base, plane->len, f);
-    fill_coverings(coverings->base, coverings->len);
+    struct restoring s = lend_near(f, 0);
+    fill_plane(s.plane->base, s.plane->len, f);
+    fill_coverings(s.coverings->base, s.coverings->len);
     settle();
-    uint32_t a = tetrolet_restore(f.height, f.width, f.levels, plane->lib, plane->len, coverings->lib, coverings->len, numerators->lib, numerators->len,
-                                  samples->lib, samples->len, scratch->lib, scratch->len);
+    uint32_t a = restore_lib(tetrolet_restore, f, &s);
     if (asks_plain(f.area))
-        compare_plain(t, a, plain_restore(words, WORDS, f.height, f.width, f.levels, plane->plain, plane->len, coverings->plain, coverings->len,
-                                          numerators->plain, numerators->len, samples->plain, samples->len, scratch->plain, scratch->len));
-    compare(t, a, base_restore(f.height, f.width, f.levels, plane->base, plane->len, coverings->base, coverings->len, numerators->base, numerators->len,
-                               samples->base, samples->len, scratch->base, scratch->len));
+        compare_plain(t, a, restore_plain(plain_restore, f, &s));
+    compare(t, a, restore_base(base_restore, f, &s));
 }
 
 /* Half of the lists are made for the coverings; the others apart from them, so that many of the coverings are missing. */
@@ -868,24 +981,24 @@ static void call_restore_listed(struct tally *t)
 {
     struct frame f = make_frame();
     count_strip(t, f);
-    struct slice *plane = lend(length_near(f.area), 8), *coverings = lend(length_near(f.blocks), 1), *numerators = lend(length_near(f.area), 8),
-                 *samples = lend(length_near(f.area), 2), *scratch = lend(length_near(f.area), 8);
-    fill_plane(plane->base, plane->len, f);
-    fill_coverings(coverings->base, coverings->len);
-    struct slice *list = once_in(2) ? lend_used(coverings) : lend_list();
+    struct restoring s = lend_near(f, 0);
+    fill_plane(s.plane->base, s.plane->len, f);
+    fill_coverings(s.coverings->base, s.coverings->len);
+    struct slice *list = once_in(2) ? lend_used(s.coverings) : lend_list();
     settle();
-    uint32_t a = tetrolet_restore_listed(f.height, f.width, f.levels, plane->lib, plane->len, coverings->lib, coverings->len, list->lib, list->len,
-                                         numerators->lib, numerators->len, samples->lib, samples->len, scratch->lib, scratch->len);
+    uint32_t a = tetrolet_restore_listed(f.height, f.width, f.levels, s.plane->lib, s.plane->len, s.coverings->lib, s.coverings->len, list->lib,
+                                         list->len, s.numerators->lib, s.numerators->len, s.samples->lib, s.samples->len, s.scratch->lib,
+                                         s.scratch->len);
     unchanged(list);
     if (a != TETROLET_LIST && a != TETROLET_UNLISTED)
-        compare_entries(a, tetrolet_restore(f.height, f.width, f.levels, plane->base, plane->len, coverings->base, coverings->len, numerators->base,
-                                            numerators->len, samples->base, samples->len, scratch->base, scratch->len));
+        compare_entries(a, restore_base(tetrolet_restore, f, &s));
     if (asks_plain(f.area))
-        compare_plain(t, a, plain_restore_listed(words, WORDS, f.height, f.width, f.levels, plane->plain, plane->len, coverings->plain,
-                                                 coverings->len, list->plain, list->len, numerators->plain, numerators->len, samples->plain,
-                                                 samples->len, scratch->plain, scratch->len));
-    compare(t, a, base_restore_listed(f.height, f.width, f.levels, plane->base, plane->len, coverings->base, coverings->len, list->base, list->len,
-                                      numerators->base, numerators->len, samples->base, samples->len, scratch->base, scratch->len));
+        compare_plain(t, a, plain_restore_listed(words, WORDS, f.height, f.width, f.levels, s.plane->plain, s.plane->len, s.coverings->plain,
+                                                 s.coverings->len, list->plain, list->len, s.numerators->plain, s.numerators->len, s.samples->plain,
+                                                 s.samples->len, s.scratch->plain, s.scratch->len));
+    compare(t, a, base_restore_listed(f.height, f.width, f.levels, s.plane->base, s.plane->len, s.coverings->base, s.coverings->len, list->base,
+                                      list->len, s.numerators->base, s.numerators->len, s.samples->base, s.samples->len, s.scratch->base,
+                                      s.scratch->len));
 }
 
 typedef uint32_t cut_entry(size_t height, size_t width, size_t levels, int64_t *plane, size_t plane_len, uint64_t number, size_t *left);
@@ -1272,45 +1385,191 @@ static void call_smooth(struct tally *t)
     count_strip(t, f);
     int flawed = once_in(12);
     size_t lengths[4] = { f.area, f.blocks, f.area, f.area };
-    for (int k = 0; k < 4; k++)
-        lengths[k] = flawed && once_in(5) ? wrong_length(lengths[k]) : length_near(lengths[k]);
+    lengths_near(lengths, 4, flawed);
     struct slice *plane = lend(lengths[0], 8), *coverings = lend(lengths[1], 1), *result = lend(lengths[2], 8), *scratch = lend(lengths[3], 8);
-    int64_t *p = plane->base;
-    uint8_t *c = coverings->base;
     uint64_t step = make_step();
     fill_strip(plane, coverings, f);
     if (once_in(4))
-        fill_sparse(p, plane->len, f);
-    if (flawed && coverings->len > 0 && once_in(2))
-        c[below(coverings->len)] = bad_covering();
-    if (flawed && plane->len > 0 && once_in(2))
-        p[below(plane->len)] = bad_entry();
+        fill_sparse(plane->base, plane->len, f);
+    if (flawed)
+        flaw_strip(plane, coverings);
     if (flawed && once_in(2))
         step = 256 + below(1000);
     smooth_by(t, f, step, plane, coverings, result, scratch);
 }
 
-/* Large numbers: large images with the most levels, most entries at an end of their range and the others 0, so that they move; the largest step. */
-static void smooth_largest(struct tally *t)
+/* A call, or several, for each of nine large images with the most levels. */
+static void each_large(struct tally *t, void (*run)(struct tally *, struct frame))
 {
     for (size_t height = 128; height <= 512; height *= 2)
-        for (size_t width = 128; width <= 512; width *= 2, call_number++) {
+        for (size_t width = 128; width <= 512; width *= 2) {
             struct frame f = { .made_height = height, .made_width = width };
             f.made_levels = made_depth(&f);
             settle_frame(&f);
-            struct slice *plane = lend(f.area, 8), *coverings = lend(f.blocks, 1), *result = lend(f.area, 8), *scratch = lend(f.area, 8);
-            int64_t *p = plane->base;
-            uint8_t *c = coverings->base;
-            for (size_t i = 0; i < f.area; i++) {
-                int low;
-                int64_t most = most_at(f, i, &low);
-                p[i] = low || !once_in(8) ? end_of(most, low) : 0;
-            }
-            for (size_t k = 0; k < f.blocks; k++)
-                c[k] = (uint8_t)(1 + below(117));
-            smooth_by(t, f, 255, plane, coverings, result, scratch);
-            drop();
+            run(t, f);
         }
+}
+
+/* Large numbers: most entries at an end of their range and the others 0, so that they move; the largest step. */
+static void smooth_large(struct tally *t, struct frame f)
+{
+    struct slice *plane = lend(f.area, 8), *coverings = lend(f.blocks, 1), *result = lend(f.area, 8), *scratch = lend(f.area, 8);
+    fill_ends(plane->base, f.area, f, 8);
+    fill_good_coverings(coverings->base, f.blocks);
+    smooth_by(t, f, 255, plane, coverings, result, scratch);
+    drop();
+    call_number++;
+}
+
+/* Whether each numerator is 4^R times a whole number from 0 to 4,095. */
+static int are_whole(const int64_t *numerators, size_t n, size_t levels)
+{
+    int64_t whole = (int64_t)1 << 2 * levels;
+    for (size_t k = 0; k < n; k++)
+        if (numerators[k] % whole != 0 || numerators[k] < 0 || numerators[k] / whole > 4095)
+            return 0;
+    return 1;
+}
+
+/* Whether each numerator is 4^R times its sample, and that at most 4,095. */
+static int are_exact(const int64_t *numerators, const uint16_t *samples, size_t n, size_t levels)
+{
+    for (size_t k = 0; k < n; k++)
+        if (samples[k] > 4095 || numerators[k] != (int64_t)samples[k] << 2 * levels)
+            return 0;
+    return 1;
+}
+
+/* What restoring as a master, which answered a, left beside what ordinary restoring leaves. It is the same, with exact samples where it is accepted; but
+   where the answer is 20, ordinary restoring accepts the plane, and some numerator is not whole. */
+static void is_master(struct frame f, const struct restoring *s, uint32_t a)
+{
+    uint32_t b = restore_base(tetrolet_restore, f, s);
+    if (a == TETROLET_MASTER) {
+        if (b != 0 || are_whole(s->numerators->base, s->numerators->len, f.levels))
+            differ("a master is refused without a reason");
+        put_back();
+        return;
+    }
+    compare_entries(a, b);
+    if (a == 0 && !are_exact(s->numerators->lib, s->samples->lib, s->samples->len, f.levels))
+        differ("the samples of a master are not exact");
+}
+
+/* Restores as a master, when the plane and the coverings are set. */
+static void restore_as_master(struct tally *t, struct frame f, const struct restoring *s)
+{
+    settle();
+    uint32_t a = restore_lib(tetrolet_restore_master, f, s);
+    unchanged(s->plane);
+    unchanged(s->coverings);
+    is_master(f, s, a);
+    if (asks_plain(f.area))
+        compare_plain(t, a, restore_plain(plain_restore_master, f, s));
+    compare(t, a, restore_base(base_restore_master, f, s));
+}
+
+/* A place among n, the last one more often than another. */
+static size_t place_in(size_t n)
+{
+    return once_in(4) ? n - 1 : below(n);
+}
+
+/* The values of an image: random ones from 0 to 4,095, or these two alone. Half of the images have one value at a limit or just past it. */
+static void fill_values(int64_t *p, size_t n)
+{
+    static const int64_t limits[] = { -1, 0, 4095, 4096 };
+    uint64_t range = 1 + below(4096), start = below(4096 - range + 1);
+    int ends = once_in(3);
+    for (size_t i = 0; i < n; i++)
+        p[i] = (int64_t)(ends ? 4095 * below(2) : start + below(range));
+    if (once_in(2))
+        p[place_in(n)] = limits[below(4)];
+}
+
+/* A plane whose numerators are 4^R times such values. Its coverings are any, not those that decomposing would choose. */
+static void fill_whole(int64_t *p, uint8_t *coverings, struct frame f)
+{
+    settle_frame(&f);
+    fill_values(p, f.area);
+    fill_good_coverings(coverings, f.blocks);
+    decompose_by(f, coverings, p);
+}
+
+/* One entry changed by a power of two, 1 to 4^R. */
+static void change_entry(int64_t *p, struct frame f)
+{
+    int64_t by = (int64_t)1 << below(2 * f.made_levels + 1);
+    p[place_in(f.area)] += once_in(2) ? by : -by;
+}
+
+/* A plane that is a master, or nearly: of a real image, uncut, or of whole values, with one entry or one covering changed or without; or a strip as for
+   other entries. */
+static void fill_master(const struct slice *plane, const struct slice *coverings, struct frame f)
+{
+    int64_t *p = plane->base;
+    uint8_t *c = coverings->base;
+    uint64_t kind = below(8);
+    if (kind < 2 || plane->len != f.area || coverings->len != f.blocks) {
+        fill_strip(plane, coverings, f);
+        return;
+    }
+    if (kind < 5)
+        fill_whole(p, c, f);
+    else
+        fill_real(p, c, f);
+    if (kind == 3 || kind == 6)
+        change_entry(p, f);
+    if (kind == 4 || kind == 7)
+        fill_good_coverings(c + below(f.blocks), 1);
+    spoil_plane(p, f.area);
+    spoil_coverings(c, f.blocks);
+}
+
+/* Now and then there are several flaws at once. */
+static void call_master(struct tally *t)
+{
+    struct frame f = make_frame();
+    count_strip(t, f);
+    int flawed = once_in(12);
+    struct restoring s = lend_near(f, flawed);
+    fill_master(s.plane, s.coverings, f);
+    if (flawed)
+        flaw_strip(s.plane, s.coverings);
+    restore_as_master(t, f, &s);
+}
+
+/* A large plane. 0: of 4,095 and 0, so that it passes. 1 and 2: the last value past a limit. 3: a W of the last block one more. 4: one of the first block two
+   more. 5: all entries at the ends of their ranges; with 8 levels the numerators are multiples of 4^8, and some of them past 2^31 either side of zero. */
+enum { LARGE_KINDS = 6 };
+
+static void fill_large(int kind, int64_t *p, const uint8_t *coverings, struct frame f)
+{
+    if (kind == 5) {
+        fill_ends(p, f.area, f, 0);
+        return;
+    }
+    for (size_t i = 0; i < f.area; i++)
+        p[i] = (int64_t)(kind == 0 ? 4095 * below(2) : 1 + below(4094));
+    if (kind == 1 || kind == 2)
+        p[f.area - 1] = kind == 1 ? 4096 : -1;
+    decompose_by(f, coverings, p);
+    if (kind == 3)
+        p[f.area - 1] += 1;
+    if (kind == 4)
+        p[f.area / 2] += 2;
+}
+
+static void master_large(struct tally *t, struct frame f)
+{
+    size_t lengths[5] = { f.area, f.blocks, f.area, f.area, f.area };
+    for (int kind = 0; kind < LARGE_KINDS; kind++, call_number++) {
+        struct restoring s = lend_restoring(lengths);
+        fill_good_coverings(s.coverings->base, f.blocks);
+        fill_large(kind, s.plane->base, s.coverings->base, f);
+        restore_as_master(t, f, &s);
+        drop();
+    }
 }
 
 /* A buffer for a text of n bytes: of that length, one more, one less, or any. */
@@ -1367,8 +1626,7 @@ static void call_read(struct tally *t)
     int64_t *p = malloc(f.area * sizeof *p);
     uint8_t *c = malloc(f.blocks);
     fill_plane(p, f.area, f);
-    for (size_t i = 0; i < f.blocks; i++)
-        c[i] = (uint8_t)(1 + below(117));
+    fill_good_coverings(c, f.blocks);
     if (base_write(BASE_DIGITS, f.made_height, f.made_width, f.made_levels, p, f.area, c, f.blocks, text, sizeof text, &text_len) != 0)
         text_len = below(64);
     free(p);
@@ -1461,6 +1719,7 @@ int main(int argc, char **argv)
         { call_listed, { "listed", 0, { 0 }, 0, 0, 0 } },
         { call_restore, { "restore", 0, { 0 }, 0, 0, 0 } },
         { call_restore_listed, { "restore listed", 0, { 0 }, 0, 0, 0 } },
+        { call_master, { "restore master", 0, { 0 }, 0, 0, 0 } },
         { call_keep, { "keep", 0, { 0 }, 0, 0, 0 } },
         { call_threshold, { "threshold", 0, { 0 }, 0, 0, 0 } },
         { call_join, { "join", 0, { 0 }, 0, 0, 0 } },
@@ -1482,8 +1741,13 @@ int main(int argc, char **argv)
     struct tally largest = { "smooth", 0, { 0 }, 0, 0, 0 };
     entry = largest.name;
     call_number = 0;
-    smooth_largest(&largest);
+    each_large(&largest, smooth_large);
     printf("%lu large planes near the ends of their ranges smoothed, no difference\n", largest.accepted);
+    struct tally masters = { "restore master", 0, { 0 }, 0, 0, 0 };
+    entry = masters.name;
+    call_number = 0;
+    each_large(&masters, master_large);
+    printf("%lu large planes restored as masters and %lu refused, no difference\n", masters.accepted, masters.refused[TETROLET_MASTER]);
     for (call_number = 0; call_number < calls; call_number++) {
         size_t k = below(count);
         entry = entries[k].tally.name;

@@ -24,6 +24,9 @@ uint32_t plain_restore_listed(const uint8_t *words, size_t words_len, size_t hei
                               size_t plane_len, const uint8_t *coverings, size_t coverings_len, const uint8_t *list, size_t list_len,
                               int64_t *numerators, size_t numerators_len, uint16_t *samples, size_t samples_len, int64_t *scratch,
                               size_t scratch_len);
+uint32_t plain_restore_master(const uint8_t *words, size_t words_len, size_t height, size_t width, size_t levels, const int64_t *plane,
+                              size_t plane_len, const uint8_t *coverings, size_t coverings_len, int64_t *numerators, size_t numerators_len,
+                              uint16_t *samples, size_t samples_len, int64_t *scratch, size_t scratch_len);
 uint32_t plain_keep(size_t height, size_t width, size_t levels, int64_t *plane, size_t plane_len, uint64_t quota, size_t *left);
 uint32_t plain_threshold(size_t height, size_t width, size_t levels, int64_t *plane, size_t plane_len, uint64_t limit, size_t *left);
 uint32_t plain_join(size_t left_height, size_t left_width, size_t left_levels, const int64_t *left_plane, size_t left_plane_len,
