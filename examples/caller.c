@@ -1,7 +1,7 @@
-/* A caller in C: decomposes a small strip, first with a tolerance and then without, to show how many different coverings a mill needs; keeps the best
-   coefficients, writes the sheet, reads it back and restores it; looks at a window of it, which is restored alone; smooths it by one step. Decomposes, keeps
-   and restores with a list of sixteen coverings, to show how much farther the picture is then. Then the strip as two halves, each decomposed and cut by
-   itself, as a wide leaf is scanned: joined, they restore to the two side by side.
+/* A caller in C: decomposes a small strip, first with a tolerance and then without, to show how many different coverings a mill needs; restores it as a
+   master, which the plane is only until it is cut; keeps the best coefficients, writes the sheet, reads it back and restores it; looks at a window of it,
+   which is restored alone; smooths it by one step. Decomposes, keeps and restores with a list of sixteen coverings, to show how much farther the picture is
+   then. Then the strip as two halves, each decomposed and cut by itself, as a wide leaf is scanned: joined, they restore to the two side by side.
    Then what an installer runs: a test image, made from a number, goes there and back. */
 #include "sixteen.h"
 #include "tetrolet.h"
@@ -55,6 +55,15 @@ static int same_numerators(const int64_t *a, const int64_t *b)
     int same = 0;
     for (int k = 0; k < AREA; k++)
         same += a[k] == b[k];
+    return same;
+}
+
+/* How many cells have what an image, restored as a master, leaves: its sample, a numerator of 4^LEVELS times the sample, and a scratch of 0. */
+static int same_master(const uint16_t *image, const int64_t *numerators, const uint16_t *samples, const int64_t *scratch)
+{
+    int same = 0;
+    for (int k = 0; k < AREA; k++)
+        same += samples[k] == image[k] && numerators[k] == (int64_t)image[k] << 2 * LEVELS && scratch[k] == 0;
     return same;
 }
 
@@ -120,9 +129,16 @@ int main(void)
            BLOCKS, kinds, entries);
     printf("different coverings used: %d with tolerance 0, %d with tolerance %d\n", kinds, near_kinds, TOLERANCE);
 
+    accepted("restore master", tetrolet_restore_master(HEIGHT, WIDTH, LEVELS, plane, AREA, coverings, BLOCKS, numerators, AREA, samples, AREA, scratch,
+                                                       AREA));
+    printf("restored as a master: %d of %d samples, nothing rounded\n", same_master(image, numerators, samples, scratch), AREA);
+
     size_t left = 0, length = 0, height = 0, width = 0, levels = 0;
     accepted("keep", tetrolet_keep(HEIGHT, WIDTH, LEVELS, plane, AREA, QUOTA, &left));
     printf("kept %zu tetrolet coefficients\n", left);
+    uint32_t refusal = tetrolet_restore_master(HEIGHT, WIDTH, LEVELS, plane, AREA, coverings, BLOCKS, numerators, AREA, samples, AREA, scratch, AREA);
+    printf("no master any more: refused by %u; %d of %d places are as they were\n", (unsigned)refusal, same_master(image, numerators, samples, scratch),
+           AREA);
 
     static uint8_t sheet[AREA * 32];
     accepted("write", tetrolet_write(HEIGHT, WIDTH, LEVELS, plane, AREA, coverings, BLOCKS, sheet, sizeof sheet, &length));

@@ -1,7 +1,7 @@
-// A caller in Rust: decomposes a small strip, first with a tolerance and then without, to show how many different coverings a mill needs; keeps the best
-// coefficients, writes the sheet, reads it back and restores it; looks at a window of it, which is restored alone; smooths it by one step. Decomposes, keeps
-// and restores with a list of sixteen coverings, to show how much farther the picture is then. Then the strip as two halves, each decomposed and cut by
-// itself, as a wide leaf is scanned: joined, they restore to the two side by side.
+// A caller in Rust: decomposes a small strip, first with a tolerance and then without, to show how many different coverings a mill needs; restores it as a
+// master, which the plane is only until it is cut; keeps the best coefficients, writes the sheet, reads it back and restores it; looks at a window of it,
+// which is restored alone; smooths it by one step. Decomposes, keeps and restores with a list of sixteen coverings, to show how much farther the picture is
+// then. Then the strip as two halves, each decomposed and cut by itself, as a wide leaf is scanned: joined, they restore to the two side by side.
 // Then what an installer runs: a test image, made from a number, goes there and back.
 // The functions below wrap the C entries in slices, so that lengths and pointers cannot be mistaken.
 
@@ -77,6 +77,21 @@ mod ffi {
             coverings_len: usize,
             list: *const u8,
             list_len: usize,
+            numerators: *mut i64,
+            numerators_len: usize,
+            samples: *mut u16,
+            samples_len: usize,
+            scratch: *mut i64,
+            scratch_len: usize,
+        ) -> u32;
+        pub fn tetrolet_restore_master(
+            height: usize,
+            width: usize,
+            levels: usize,
+            plane: *const i64,
+            plane_len: usize,
+            coverings: *const u8,
+            coverings_len: usize,
             numerators: *mut i64,
             numerators_len: usize,
             samples: *mut u16,
@@ -358,13 +373,41 @@ fn keep(
     answer(n, left)
 }
 
-// A plane with its coverings: a strip that is joined to another, that a window is looked at of, or that is smoothed.
+// A plane with its coverings: a strip that may be a master, that is joined to another, that a window is looked at of, or that is smoothed.
 struct Strip<'a> {
     height: usize,
     width: usize,
     levels: usize,
     plane: &'a [i64],
     coverings: &'a [u8],
+}
+
+// What a strip is restored to, and the scratch.
+struct Restored {
+    numerators: Vec<i64>,
+    samples: Vec<u16>,
+    scratch: Vec<i64>,
+}
+
+fn restore_master(strip: &Strip, to: &mut Restored) -> Answer<()> {
+    let n = unsafe {
+        ffi::tetrolet_restore_master(
+            strip.height,
+            strip.width,
+            strip.levels,
+            strip.plane.as_ptr(),
+            strip.plane.len(),
+            strip.coverings.as_ptr(),
+            strip.coverings.len(),
+            to.numerators.as_mut_ptr(),
+            to.numerators.len(),
+            to.samples.as_mut_ptr(),
+            to.samples.len(),
+            to.scratch.as_mut_ptr(),
+            to.scratch.len(),
+        )
+    };
+    answer(n, ())
 }
 
 fn join(left: &Strip, right: &Strip, plane: &mut [i64], coverings: &mut [u8]) -> Answer<()> {
@@ -641,14 +684,27 @@ fn joined(left: &Strip, right: &Strip) -> Answer<(Vec<i64>, Vec<u16>)> {
     restored(HEIGHT, WIDTH, LEVELS, &plane, &coverings)
 }
 
-fn half<'a>(plane: &'a [i64], coverings: &'a [u8]) -> Strip<'a> {
+fn strip<'a>(width: usize, plane: &'a [i64], coverings: &'a [u8]) -> Strip<'a> {
     Strip {
         height: HEIGHT,
-        width: HALF_WIDTH,
+        width,
         levels: LEVELS,
         plane,
         coverings,
     }
+}
+
+fn half<'a>(plane: &'a [i64], coverings: &'a [u8]) -> Strip<'a> {
+    strip(HALF_WIDTH, plane, coverings)
+}
+
+// How many cells have what an image, restored as a master, leaves: its sample, a numerator of 4^LEVELS times the sample, and a scratch of 0.
+fn same_master(image: &[u16], left: &Restored) -> usize {
+    let numerator = |k: usize| (image[k] as i64) << (2 * LEVELS);
+    (0..image.len())
+        .filter(|k| left.samples[*k] == image[*k])
+        .filter(|k| left.numerators[*k] == numerator(*k) && left.scratch[*k] == 0)
+        .count()
 }
 
 // The samples of an image at the places of a window.
@@ -685,8 +741,25 @@ fn run() -> Answer<()> {
     println!("decomposed height {HEIGHT}, width {WIDTH} with {LEVELS} levels: {BLOCKS} blocks, {kinds} different coverings, {entries} plane entries not zero");
     println!("different coverings used: {kinds} with tolerance 0, {near_kinds} with tolerance {TOLERANCE}");
 
+    let mut master = Restored {
+        numerators: vec![0; AREA],
+        samples: vec![0; AREA],
+        scratch: vec![0; AREA],
+    };
+    restore_master(&strip(WIDTH, &plane, &coverings), &mut master)?;
+    println!(
+        "restored as a master: {} of {AREA} samples, nothing rounded",
+        same_master(&image, &master)
+    );
+
     let left = keep(HEIGHT, WIDTH, LEVELS, &mut plane, QUOTA)?;
     println!("kept {left} tetrolet coefficients");
+    if let Err(refusal) = restore_master(&strip(WIDTH, &plane, &coverings), &mut master) {
+        println!(
+            "no master any more: refused by {refusal}; {} of {AREA} places are as they were",
+            same_master(&image, &master)
+        );
+    }
     let mut sheet = vec![0; 32 * AREA];
     let length = write(HEIGHT, WIDTH, LEVELS, &plane, &coverings, &mut sheet)?;
     println!("wrote a sheet of {length} bytes");
