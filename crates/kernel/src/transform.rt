@@ -1,7 +1,8 @@
 // The tetrolet transform of one block by a given covering, and its inverse.
 ghost use mathlib.Core.Path.{_≡_};
+ghost use mathlib.Core.List.{List};
 ghost use Prim.Native.Nat.{_+_, _*_, _^_, _≤_, _<_};
-ghost use lib.IntN.{natAbs};
+ghost use lib.IntN.{ℤ, natAbs};
 ghost use Rattle.coverings.specs.Words.{wordOf};
 ghost use Rattle.coverings.specs.Rule.{Number};
 ghost use Rattle.block.specs.Block.{signRow, forward};
@@ -119,13 +120,12 @@ pub fn by_labels(t: [i64; 16]) -> [i64; 16]
     ]
 }
 
-// The values from the results of a block by a covering, in cell order: of the results of values, four times the values.
-// Two wrong answers that the contract rules out: the values in the order of the labels; and the values divided by four.
-pub fn inverse(cells: &[u8; 1872], covering: u8, t: [i64; 16]) -> [i64; 16]
-    requires { ⌜ (now cells ≡ cellTable) × Number covering × Within (2 ^ 40) t ⌝ }
-    ensures { λ r. ⌜ r ≡ inverseOf covering t ⌝ }
+// The values of the four pieces in cell order.
+// Two wrong answers that the contract rules out: the order of the labels; and the cells of another covering.
+pub fn by_cells(cells: &[u8; 1872], covering: u8, labelled: [i64; 16]) -> [i64; 16]
+    requires { ⌜ (now cells ≡ cellTable) × Number covering ⌝ }
+    ensures { λ r. ⌜ ((t : List ℤ) → labelled ≡ piecewise t → r ≡ inverseOf covering t) ⌝ }
 {
-    let labelled = by_labels(t);
     let mut values = [0i64; 16];
     let mut k: usize = 0;
     while k < 16 {
@@ -134,4 +134,14 @@ pub fn inverse(cells: &[u8; 1872], covering: u8, t: [i64; 16]) -> [i64; 16]
         k += 1;
     }
     values
+}
+
+// The values from the results of a block by a covering, in cell order: of the results of values, four times the values.
+// Two wrong answers that the contract rules out: the values in the order of the labels; and the values divided by four.
+pub fn inverse(cells: &[u8; 1872], covering: u8, t: [i64; 16]) -> [i64; 16]
+    requires { ⌜ (now cells ≡ cellTable) × Number covering × Within (2 ^ 40) t ⌝ }
+    ensures { λ r. ⌜ r ≡ inverseOf covering t ⌝ }
+{
+    let labelled = by_labels(t);
+    by_cells(cells, covering, labelled)
 }

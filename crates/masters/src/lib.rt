@@ -73,11 +73,11 @@ fn whole_in(
     ensures { λ r. ⌜ (T r ↔ AllIn (k .level - 1) (WholeAt (k .levels) (k .height) (k .width) (now (coverings .entry)) (now (plane .entry))) (k .i) (k .j)) ⌝ }
 {
     let results = blockwise::results(plane, k, low);
+    let pieces = kernel::transform::by_labels(results);
     if k.level == 1 {
-        let pieces = kernel::transform::by_labels(results);
         return sixteen_whole(&pieces, k.levels, unit);
     }
-    let v = blockwise::values(cells, coverings, k, results);
+    let v = blockwise::values(cells, coverings, k, pieces);
     let mut q: usize = 0;
     while q < 4 {
         let below = blockwise::child(k, q);

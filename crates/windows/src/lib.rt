@@ -234,7 +234,8 @@ fn fill(
         return;
     }
     let results = blockwise::results(plane, k, low);
-    let values = blockwise::values(cells, coverings, k, results);
+    let pieces = kernel::transform::by_labels(results);
+    let values = blockwise::values(cells, coverings, k, pieces);
     if k.level == 1 {
         store_block(&values, v, k.i, k.j, k.levels, unit, samples);
         return;

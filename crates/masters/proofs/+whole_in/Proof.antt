@@ -54,61 +54,59 @@ Inv-loop cells plane coverings k unit v q₀ q =
 abbrev μ-loop : whole-in-lts.MeasureT-loop
 μ-loop cells plane coverings k unit v q₀ q = 4 - q
 
-two : (t : ℕ) (c : whole-in-lts.Else1 (claims t) (whole-in-at t) whole-in.Post Inv-loop μ-loop) → 2 ≤ c .before .before .before .before .args .k .level
-two t c = omega (arith, c .before .before .before .before .pre .1 .1 .0 .1 .some, c .if1 .left)
+two : (t : ℕ) (c : whole-in-lts.Else1 (claims t) (whole-in-at t) whole-in.Post Inv-loop μ-loop) → 2 ≤ c .before .before .before .before .before .args .k .level
+two t c = omega (arith, c .before .before .before .before .before .pre .1 .1 .0 .1 .some, c .if1 .left)
 
 -- the block's values, where it is not of the first level
-valued : (t : ℕ) (c : whole-in-lts.After-values (claims t) (whole-in-at t) whole-in.Post Inv-loop μ-loop) → let a = c .before .before .before .before .before .args in
+valued : (t : ℕ) (c : whole-in-lts.After-values (claims t) (whole-in-at t) whole-in.Post Inv-loop μ-loop) → let a = c .before .before .before .before .before .before .args in
     c .values .result ≡ blockList (behind (a .k) (a .k .level - 1) (a .coverings .now) (a .plane .now)) (a .k .i) (a .k .j)
 valued t c =
-    let p = c .before .before .before .before .before .pre .1 .1 in
-    c .values .ensures ∙ values-told (p .0 .0) (p .0 .1) (p .1) (c .before .before .before .results .ensures)
+    let b = c .before .before .before in
+    let r = b .before in
+    let p = r .before .before .pre .1 .1 in
+    c .values .ensures (r .results .result) (b .by-labels .ensures) ∙ values-told (p .0 .0) (p .0 .1) (p .1) (r .results .ensures)
 
 -- what the call on the block below says
-said : (t : ℕ) (c : whole-in-lts.After-whole-in (claims t) (whole-in-at t) whole-in.Post Inv-loop μ-loop) → let l = c .before .before .before .before in let a = l .before .before .before .before .before .before .args in let k = a .k in
+said : (t : ℕ) (c : whole-in-lts.After-whole-in (claims t) (whole-in-at t) whole-in.Post Inv-loop μ-loop) → let l = c .before .before .before .before in let a = l .before .before .before .before .before .before .before .args in let k = a .k in
     T (c .whole-in .result) ↔ AllIn (k .level - 1 - 1) (WholeAt (k .levels) (k .height) (k .width) (a .coverings .now) (a .plane .now)) (k .i * 2 + l .loop .q % 2) (k .j * 2 + l .loop .q / 2)
 said t c =
     let l = c .before .before .before .before in
-    let a = l .before .before .before .before .before .before .args in
+    let a = l .before .before .before .before .before .before .before .args in
     told (below (a .k) (l .loop .q)) (a .coverings .now) (a .plane .now) (c .before .before .child .ensures .0) (c .whole-in .result) (c .whole-in .ensures)
 
 results-requires : (t : ℕ) → whole-in-lts.Need-results-requires (claims t) (whole-in-at t) whole-in.Post Inv-loop μ-loop
 results-requires t c κs = let p = c .before .pre .1 .1 in results-asked (p .0 .0) (p .0 .1) (p .1)
 
 by-labels-requires : (t : ℕ) → whole-in-lts.Need-by-labels-requires (claims t) (whole-in-at t) whole-in.Post Inv-loop μ-loop
-by-labels-requires t c κs =
-    let r = c .before .before in
-    let p = r .before .before .pre .1 .1 in
-    found-within (p .0 .0) (p .0 .1) (p .1) (r .results .ensures)
+by-labels-requires t c κs = let p = c .before .before .pre .1 .1 in found-within (p .0 .0) (p .0 .1) (p .1) (c .results .ensures)
 
 sixteen-whole-requires : (t : ℕ) → whole-in-lts.Need-sixteen-whole-requires (claims t) (whole-in-at t) whole-in.Post Inv-loop μ-loop
 sixteen-whole-requires t c κs =
     let p = c .before .before .before .before .before .before .pre .1 .1 .0 in
-    (p .0 .most, p .2, ap length (c .before .by-labels .ensures) ∙ sixteen-pieces _)
+    (p .0 .most, p .2, ap length (c .before .before .before .by-labels .ensures) ∙ sixteen-pieces _)
 
 returns : (t : ℕ) → whole-in-lts.Need-returns (claims t) (whole-in-at t) whole-in.Post Inv-loop μ-loop
 returns t c =
     let w = c .before .before in
-    let r = w .before .before .before in
+    let b = w .before .before in
+    let r = b .before in
     let s = r .before .before in
     let a = s .args in
     let p = s .pre .1 .1 in
-    let one = w .before .if1 .taken in
+    let one = w .if1 .taken in
     let e = first-values (a .k) (a .coverings .now) (a .plane .now) one (values-told (p .0 .0) (p .0 .1) (p .1) (r .results .ensures)) in
-    top-says (a .k) (a .coverings .now) (a .plane .now) one (r .results .result) (covering-number (p .0 .0) (p .0 .1)) e (c .sixteen-whole .ensures ∙ ap (every (isWhole (a .k .levels))) (w .by-labels .ensures))
+    top-says (a .k) (a .coverings .now) (a .plane .now) one (r .results .result) (covering-number (p .0 .0) (p .0 .1)) e (c .sixteen-whole .ensures ∙ ap (every (isWhole (a .k .levels))) (b .by-labels .ensures))
 
 values-requires : (t : ℕ) → whole-in-lts.Need-values-requires (claims t) (whole-in-at t) whole-in.Post Inv-loop μ-loop
 values-requires t c κs =
-    let r = c .before .before in
-    let s = r .before .before in
-    let p = s .pre .1 .1 in
-    (s .pre .1 .0, values-asked (p .0 .0) (p .0 .1) (p .1) (r .results .ensures))
+    let p = c .before .before .before .before .before .pre .1 in
+    (p .0, values-asked (p .1 .0 .0) (p .1 .0 .1))
 
 loop-holds : (t : ℕ) → whole-in-lts.Need-loop-holds (claims t) (whole-in-at t) whole-in.Post Inv-loop μ-loop
 loop-holds t c = (omega arith, λ p l. absurd (omega arith))
 
 child-requires : (t : ℕ) → whole-in-lts.Need-child-requires (claims t) (whole-in-at t) whole-in.Post Inv-loop μ-loop
-child-requires t c κs = let e = c .before .before .before in (e .before .before .before .before .pre .1 .1 .0 .1, two t e, c .loop-test .taken)
+child-requires t c κs = let e = c .before .before .before in (e .before .before .before .before .before .pre .1 .1 .0 .1, two t e, c .loop-test .taken)
 
 quarter-requires : (t : ℕ) → whole-in-lts.Need-quarter-requires (claims t) (whole-in-at t) whole-in.Post Inv-loop μ-loop
 quarter-requires t c κs = c .before .loop-test .taken
@@ -117,7 +115,7 @@ whole-in-requires : (t : ℕ) → whole-in-lts.Need-whole-in-requires (claims t)
 whole-in-requires t c κs =
     let i = c .before .before in
     let e = i .before .before .before in
-    let s = e .before .before .before .before in
+    let s = e .before .before .before .before .before in
     let r = c .before .child .ensures in (
       omega (arith, ap (λ (n : Node). n .level) (r .0), s .pre .0, two t e),
       (s .pre .1 .0, asked (below (s .args .k) (i .before .loop .q)) (s .args .coverings .now) (s .args .plane .now) (r .0) (s .args .unit) (s .pre .1 .1 .0 .0) (r .1) (s .pre .1 .1 .0 .2) (c .quarter .ensures _ _ _ (valued t (i .before .before)))),
@@ -128,7 +126,7 @@ returns-2 t c =
     let w = c .before in
     let i = w .before .before .before in
     let e = i .before .before .before in
-    let s = e .before .before .before .before in
+    let s = e .before .before .before .before .before in
     let k = s .args .k in
     ((λ f. absurd f), (λ all. absurd (failed (w .whole-in .result) (c .if2 .taken) (said t w .1 (went k (WholeAt (k .levels) (k .height) (k .width) (s .args .coverings .now) (s .args .plane .now)) (two t e) all (i .before .loop .q) (i .loop-test .taken))))))
 
@@ -148,7 +146,7 @@ returns-3 : (t : ℕ) → whole-in-lts.Need-returns-3 (claims t) (whole-in-at t)
 returns-3 t c =
     let l = c .before in
     let e = l .before .before in
-    let s = e .before .before .before .before in
+    let s = e .before .before .before .before .before in
     let k = s .args .k in
     ((λ f. came k (WholeAt (k .levels) (k .height) (k .width) (s .args .coverings .now) (s .args .plane .now)) (two t e) (λ q m. l .loop .inv .1 q (omega arith))), (λ all. tt))
 
