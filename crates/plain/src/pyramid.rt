@@ -676,7 +676,7 @@ fn restore_all(
 }
 
 // Checks 1, 2, 3, 5 and 6; the last three are the lengths of their slices.
-fn restore_refusal(
+pub fn restore_refusal(
     extent: Extent,
     levels: usize,
     plane: &[i64],

@@ -148,6 +148,32 @@ pub extern "C" fn plain_restore_listed(
     )
 }
 
+// For areas up to 1,024: a larger picture is refused by 3, after 1, 2, 3, 5 and 6.
+#[no_mangle]
+pub extern "C" fn plain_restore_master(
+    words: &[u8],
+    height: usize,
+    width: usize,
+    levels: usize,
+    plane: &[i64],
+    coverings: &[u8],
+    numerators: &mut [i64],
+    samples: &mut [u16],
+    scratch: &mut [i64],
+) -> u32 {
+    plain::masters::restore_master(
+        words,
+        height,
+        width,
+        levels,
+        plane,
+        coverings,
+        scratch,
+        numerators,
+        samples,
+    )
+}
+
 // The last three slices are room: of each the front part, as long as the picture, is used.
 #[no_mangle]
 pub extern "C" fn plain_window(
