@@ -1,5 +1,5 @@
-// The planes of the cases that the programs `vectors`, `vectors_smooth` and `vectors_text` compare on: the coder's planes of pictures, kept and cut too, and
-// planes of any values. It is proved to be safe and to end, and nothing more.
+// The planes of the cases that the programs `vectors`, `vectors_master`, `vectors_smooth` and `vectors_text` compare on: the coder's planes of pictures, kept and
+// cut too, and planes of any values. It is proved to be safe and to end, and nothing more.
 use cases::inputs::Case;
 use cases::inputs::fill_coverings;
 use cases::inputs::fill_picture;

@@ -2,7 +2,8 @@
 // are not in the proved table, a usage list, a tie, a test image, tolerances, lists of coverings and a smoothing step, then both sides of every limit of its
 // table of refusals, by number. A line has what was asked, for each entry its name, the number of its answer and that of the second implementation, 0 where the call is accepted,
 // and whether the two agree in all that they answer and leave in the slices. What is proved says that code and definition have the same limits; the stored
-// output of this program says which. Texts that are read are the part of `reckoned_text`, and joined strips that of `reckoned_joins`.
+// output of this program says which. Texts that are read are the part of `reckoned_text`, joined strips that of `reckoned_joins`, and masters, refusal 20, that
+// of `vectors_master`.
 use pairs::answers::heading;
 
 mod frames;

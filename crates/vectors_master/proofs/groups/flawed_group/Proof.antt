@@ -1,0 +1,54 @@
+-- `vectors_master::groups::flawed_group` is safe and ends. Assumes nothing.
+use Prim.Native.Nat.{_-_, _≤_}
+use borrow.Author.Needs.{needs}
+use Rattle.vectors_master.proofs.groups.flawed_group.Statement.{statement}
+use Rattle.vectors_master.proofs.groups.flawed_group.Tie as tie
+
+abbrev Inv-loop : tie.InvT-loop
+Inv-loop words t₀ c₀ t c = c ≤ 6348
+
+abbrev μ-loop : tie.MeasureT-loop
+μ-loop words t₀ c₀ t c = 6348 - c
+
+none-requires : tie.Need-none-requires Inv-loop μ-loop
+none-requires c κs = search needs
+
+loop-holds : tie.Need-loop-holds Inv-loop μ-loop
+loop-holds c = search needs
+
+small-join-at-requires : tie.Need-small-join-at-requires Inv-loop μ-loop
+small-join-at-requires c κs = search needs
+
+one-flawed-requires : tie.Need-one-flawed-requires Inv-loop μ-loop
+one-flawed-requires c κs = search needs
+
+counted-case-requires : tie.Need-counted-case-requires Inv-loop μ-loop
+counted-case-requires c κs = search needs
+
+add-c : tie.Need-add-c Inv-loop μ-loop
+add-c c = search needs
+
+loop-less : tie.Need-loop-less Inv-loop μ-loop
+loop-less c = search needs
+
+loop-again : tie.Need-loop-again Inv-loop μ-loop
+loop-again c = search needs
+
+returns : tie.Need-returns Inv-loop μ-loop
+returns c = search needs
+
+pub flawed-group-spec : {M : Type 1} → statement M
+flawed-group-spec =
+    tie.close
+    (tie.spec
+    Inv-loop
+    μ-loop
+    none-requires
+    loop-holds
+    small-join-at-requires
+    one-flawed-requires
+    counted-case-requires
+    add-c
+    loop-less
+    loop-again
+    returns)
