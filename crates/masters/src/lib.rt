@@ -120,7 +120,7 @@ fn column_whole(
 }
 
 // Whether every numerator of a plane is whole.
-// Two wrong answers that the contract rules out: yes where the last block column was left out; and no for a plane whose coefficients alone are odd.
+// Two wrong answers that the contract rules out: yes where the last block column was left out; and no for a master that has odd coefficients.
 pub fn all_whole(
     height: usize,
     width: usize,
