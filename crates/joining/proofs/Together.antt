@@ -13,7 +13,7 @@ use Rattle.pyramid.specs.Sides.{isPlane, isCoverings}
 use Rattle.pyramid.specs.Slices.{numeratorsOf, samplesOf}
 use Rattle.quota.specs.Quota.{quotaLimit}
 use Rattle.coder.specs.Claims.{Left}
-use Rattle.coder.specs.Entries.{restoreRefusal, Restored}
+use Rattle.coder.specs.Entries.{Restored}
 use Rattle.coder.proofs.Gates.{restoring, restored-passes}
 use Rattle.keeping.specs.Entries.{planeRefusal, keepRefusal, cutRefusal}
 use Rattle.keeping.proofs.Checks.{front-passes}

@@ -1,12 +1,11 @@
 -- The laws of restoring as a master beside decomposing and restoring. Assumes nothing.
 use mathlib.Core.Path.{_≡_, sym, ap, _∙_, subst, subst⁻¹}
-use mathlib.Core.Bool.{true}
 use mathlib.Core.List.{List, [], _∷_, map}
-use Prim.Native.Nat.{ℕ, zero, suc, _*_, _^_, _<_, _≤_, min}
+use Prim.Native.Nat.{ℕ, zero, suc, _*_, _^_, _<_, _≤_}
 use native.Mathlib.Omega.{arith}
 use lib.Dec.{T, le→leb}
 use lib.IntN.{ℤ, pos, negsuc}
-use lib.ListN.{length, getD, replicate, length-replicate, getD-replicate}
+use lib.ListN.{length, getD, replicate}
 use Rattle.refusals.specs.Refusal.{afterCall}
 use Rattle.integers.specs.Lists.{every}
 use Rattle.integers.proofs.Tests.{is-true, both}
@@ -78,7 +77,7 @@ module _ (s : Strip) (numerators numerators′ : List ℤ) (samples samples′ :
       )
 
   empty : (length scratch′ ≡ s .width * s .height) × ((k : ℕ) → k < s .width * s .height → getD scratch′ k (pos 1) ≡ pos 0)
-  empty = (ap length (r .zeros) ∙ length-replicate (s .width * s .height) (pos 0), λ k l. ap (λ (z : List ℤ). getD z k (pos 1)) (r .zeros) ∙ getD-replicate (s .width * s .height) k (pos 0) (pos 1) l)
+  empty = coder.cleared (s .width * s .height) (r .zeros)
 
 -- a refused one
 as-before : (s : Strip) (numerators numerators′ : List ℤ) (samples samples′ : List ℕ) (scratch scratch′ : List ℤ) (n : ℕ) → 0 < n

@@ -8,7 +8,7 @@ use native.Mathlib.Omega.{arith}
 use borrow.Author.Tests.{not-true, not-false}
 use lib.Dec.{T}
 use lib.IntN.{ℤ, pos}
-use lib.ListN.{length, getD}
+use lib.ListN.{length}
 use Rattle.integers.specs.Lists.{every}
 use Rattle.integers.proofs.Index.{index-bound, index-place}
 use Rattle.integers.proofs.Tests.{every-at, every-of}
@@ -24,7 +24,7 @@ use Rattle.blockwise.specs.declared.Node.{Node}
 use Rattle.blockwise.specs.Cells.{AllIn}
 use Rattle.blockwise.proofs.Cells.{cell-at, Halves, down, across, cell-below, cell-inside}
 use Rattle.masters.specs.Whole.{isWhole, areWhole}
-use Rattle.masters.specs.Cells.{WholeAt, AllAlong}
+use Rattle.masters.specs.Cells.{WholeCell, AllAlong}
 
 -- ---- a call's answer, by the branch on it
 pub failed : (t : Bool) → not t ≡ true → T t → ⊥
@@ -35,8 +35,8 @@ passed t e = subst⁻¹ T (not-false t e) tt
 
 -- what a call on a node r says, where r is a known node m
 pub told : (m : Node) (cs : List ℕ) (plane : List ℤ) {r : Node} → r ≡ m → (t : Bool)
-    → (T t ↔ AllIn (r .level - 1) (WholeAt (r .levels) (r .height) (r .width) cs plane) (r .i) (r .j)) → (T t ↔ AllIn (m .level - 1) (WholeAt (m .levels) (m .height) (m .width) cs plane) (m .i) (m .j))
-told m cs plane e t f = subst (λ (r : Node). T t ↔ AllIn (r .level - 1) (WholeAt (r .levels) (r .height) (r .width) cs plane) (r .i) (r .j)) e f
+    → (T t ↔ AllIn (r .level - 1) (WholeCell (r .levels) (r .height) (r .width) cs plane) (r .i) (r .j)) → (T t ↔ AllIn (m .level - 1) (WholeCell (m .levels) (m .height) (m .width) cs plane) (m .i) (m .j))
+told m cs plane e t f = subst (λ (r : Node). T t ↔ AllIn (r .level - 1) (WholeCell (r .levels) (r .height) (r .width) cs plane) (r .i) (r .j)) e f
 
 -- ---- sixteen values
 sixteen-long : (A : Image) (i j : ℕ) → length (blockList A i j) ≡ 16
@@ -53,12 +53,12 @@ module _ (f : ℤ → Bool) (A : Image) (i j : ℕ) where
 -- a block of the first level, by the values of its pieces
 pub top-says : (k : Node) (cs : List ℕ) (plane : List ℤ) → k .level ≡ 1 → {n : ℕ} (t : List ℤ) → Number n
     → inverseOf n t ≡ blockList (numerators (k .levels) (k .height) (k .width) (listed cs) (imageOf (k .height) plane)) (k .i) (k .j)
-    → {b : Bool} → b ≡ every (isWhole (k .levels)) (piecewise t) → (T b ↔ AllIn (k .level - 1) (WholeAt (k .levels) (k .height) (k .width) cs plane) (k .i) (k .j))
+    → {b : Bool} → b ≡ every (isWhole (k .levels)) (piecewise t) → (T b ↔ AllIn (k .level - 1) (WholeCell (k .levels) (k .height) (k .width) cs plane) (k .i) (k .j))
 top-says k cs plane one {n} t m e {b} f =
     let none : k .level - 1 ≡ 0 = omega arith in
     let s = sixteen (isWhole (k .levels)) (numerators (k .levels) (k .height) (k .width) (listed cs) (imageOf (k .height) plane)) (k .i) (k .j) in
     let p = every-piece (isWhole (k .levels)) n t m in
-    let q : T (every (isWhole (k .levels)) (piecewise t)) ↔ AllIn 0 (WholeAt (k .levels) (k .height) (k .width) cs plane) (k .i) (k .j) = (
+    let q : T (every (isWhole (k .levels)) (piecewise t)) ↔ AllIn 0 (WholeCell (k .levels) (k .height) (k .width) cs plane) (k .i) (k .j) = (
       (λ x. s .0 (subst (λ (l : List ℤ). T (every (isWhole (k .levels)) l)) e (p .0 x))),
       (λ x. p .1 (subst⁻¹ (λ (l : List ℤ). T (every (isWhole (k .levels)) l)) e (s .1 x))),
     ) in
@@ -88,7 +88,7 @@ module _ (R h w : ℕ) (some : 1 ≤ R) (fits : Fits R h w) (P : ℕ → ℕ →
   in-picture f j l y x k e = f y x k (cell-inside d w x columns (omega arith))
 
 -- ---- all numerators
-pub every-cell : (R h w : ℕ) (cs : List ℕ) (plane : List ℤ) → T (areWhole R h w cs plane) ↔ ((y x : ℕ) → y < h → x < w → WholeAt R h w cs plane y x)
+pub every-cell : (R h w : ℕ) (cs : List ℕ) (plane : List ℤ) → T (areWhole R h w cs plane) ↔ ((y x : ℕ) → y < h → x < w → WholeCell R h w cs plane y x)
 every-cell R h w cs plane = (
   (λ t y x k l. subst (λ (z : ℤ). T (isWhole R z)) (image-slice h w Y y x k l) (every-at (isWhole R) (numeratorsOf R h w cs plane) (pos 0) t (x * h + y) (omega (arith, slice-length h w Y, index-bound x y w h l k)))),
   (λ all. every-of (isWhole R) (numeratorsOf R h w cs plane) (pos 0)

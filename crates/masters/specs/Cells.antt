@@ -9,8 +9,8 @@ use Rattle.pyramid.specs.Slices.{imageOf}
 use Rattle.masters.specs.Whole.{isWhole}
 
 -- The numerator in row y, column x is whole.
-abbrev pub WholeAt : ℕ → ℕ → ℕ → List ℕ → List ℤ → ℕ → ℕ → Type 0
-WholeAt R h w cs plane y x = T (isWhole R (numerators R h w (listed cs) (imageOf h plane) y x))
+abbrev pub WholeCell : ℕ → ℕ → ℕ → List ℕ → List ℤ → ℕ → ℕ → Type 0
+WholeCell R h w cs plane y x = T (isWhole R (numerators R h w (listed cs) (imageOf h plane) y x))
 
 -- P holds at each cell of the blocks of block column j, in the first h rows; d is the level less one.
 abbrev pub AllAlong : ℕ → (ℕ → ℕ → Type 0) → ℕ → ℕ → Type 0

@@ -15,7 +15,7 @@ ghost use Rattle.blockwise.specs.Node.{Block, behind};
 ghost use Rattle.blockwise.specs.Cells.{AllIn};
 ghost use Rattle.masters.specs.Whole.{isWhole, areWhole};
 ghost use Rattle.masters.specs.Laws.{WholeLaws};
-ghost use Rattle.masters.specs.Cells.{WholeAt, AllAlong};
+ghost use Rattle.masters.specs.Cells.{WholeCell, AllAlong};
 
 // The largest sample of a master. Its contract has the laws of whole numerators, which are so a part of what the check proves.
 pub fn whitest() -> u64
@@ -70,7 +70,7 @@ fn whole_in(
     requires { ⌜ now cells ≡ cellTable ⌝ }
     requires { ⌜ Restorable (k .levels) (k .height) (k .width) (now coverings) (now plane) × Block k × (unit ≡ 4 ^ k .levels) ⌝ }
     requires { ⌜ low ≡ quadOf (behind k (k .level) (now coverings) (now plane)) (k .i) (k .j) ⌝ }
-    ensures { λ r. ⌜ (T r ↔ AllIn (k .level - 1) (WholeAt (k .levels) (k .height) (k .width) (now (coverings .entry)) (now (plane .entry))) (k .i) (k .j)) ⌝ }
+    ensures { λ r. ⌜ (T r ↔ AllIn (k .level - 1) (WholeCell (k .levels) (k .height) (k .width) (now (coverings .entry)) (now (plane .entry))) (k .i) (k .j)) ⌝ }
 {
     let results = blockwise::results(plane, k, low);
     let pieces = kernel::transform::by_labels(results);
@@ -104,7 +104,7 @@ fn column_whole(
     requires { ⌜ now cells ≡ cellTable ⌝ }
     requires { ⌜ Restorable levels height width (now coverings) (now plane) ⌝ }
     requires { ⌜ (j < halved (levels - 1) width / 4) × (unit ≡ 4 ^ levels) ⌝ }
-    ensures { λ r. ⌜ (T r ↔ AllAlong (levels - 1) (WholeAt levels height width (now (coverings .entry)) (now (plane .entry))) height j) ⌝ }
+    ensures { λ r. ⌜ (T r ↔ AllAlong (levels - 1) (WholeCell levels height width (now (coverings .entry)) (now (plane .entry))) height j) ⌝ }
 {
     let tall = height >> (levels - 1);
     let mut i: usize = 0;

@@ -8,11 +8,10 @@ use native.Mathlib.Omega.{arith}
 use borrow.Author.Tests.{eqb-true, ltb-false, le-ltb}
 use lib.Dec.{T, ltb}
 use lib.IntN.{ℤ, pos, _*ℤ_}
-use lib.ListN.{length, getD, length-replicate, getD-replicate}
+use lib.ListN.{length, getD}
 use Rattle.refusals.specs.Refusal.{numberOf, refuseIf}
 use Rattle.refusals.specs.declared.Refusal.{Refusal}
 use Rattle.refusals.proofs.After.{unchanged, past, within}
-use Rattle.integers.specs.Lists.{tabulate}
 use Rattle.integers.proofs.Tabulate.{map-tabulate}
 use Rattle.integers.proofs.Tests.{is-true, is-false, true-at, both-true, two-hold, not-both, eq→eqb}
 use Rattle.pyramid.specs.Plane.{Image, numerators, listed}
@@ -24,8 +23,8 @@ use Rattle.strips.proofs.Passed.{framed-of, of-framed}
 use Rattle.places.specs.Sizes.{sizeRefusal}
 use Rattle.places.proofs.Sides.{size-past}
 use Rattle.coder.specs.Entries.{restoreRefusal}
-use Rattle.coder.proofs.Gates.{truth, mergeable}
-use Rattle.variation.specs.Smooth.{smoothed, smoothedOf}
+use Rattle.coder.proofs.Gates.{truth, cleared, mergeable}
+use Rattle.variation.specs.Smooth.{smoothedOf}
 use Rattle.variation.specs.Laws.{SmoothLaws}
 use Rattle.variation.proofs.All as variation
 use Rattle.variation.proofs.Step.{unmoved}
@@ -149,7 +148,7 @@ unmoved-slice : (R h w : ℕ) (cs : List ℕ) (plane : List ℤ) → smoothedOf 
 unmoved-slice R h w cs plane = ap (sliceOf h w) (λ i y x. unmoved R h w (listed cs) 0 (imageOf h plane) refl y x i) ∙ times-slice h w (pos 16) (numerators R h w (listed cs) (imageOf h plane))
 
 empty : (s : Strip) (p : ℕ) (result result′ scratch scratch′ : List ℤ) → Smoothed s p result result′ scratch scratch′ 0 → Exact s scratch′ × ((k : ℕ) → k < s .width * s .height → getD scratch′ k (pos 1) ≡ pos 0)
-empty s p result result′ scratch scratch′ d = (ap length (d .zeros) ∙ length-replicate (s .width * s .height) (pos 0), λ k l. ap (λ (z : List ℤ). getD z k (pos 1)) (d .zeros) ∙ getD-replicate (s .width * s .height) k (pos 0) (pos 1) l)
+empty s p result result′ scratch scratch′ d = cleared (s .width * s .height) (d .zeros)
 
 as-before : (s : Strip) (p : ℕ) (result result′ scratch scratch′ : List ℤ) (n : ℕ) → 0 < n → Smoothed s p result result′ scratch scratch′ n → (result′ ≡ result) × (scratch′ ≡ scratch)
 as-before s p result result′ scratch scratch′ zero l d = absurd (omega arith)

@@ -15,7 +15,7 @@ use Rattle.blockwise.proofs.Cells.{went, came}
 use Rattle.blockwise.proofs.Ends.{asked, first-values}
 use Rattle.blockwise.proofs.Merged.{covering-number, results-asked, found-within, values-asked, values-told}
 use Rattle.blockwise.specs.Cells.{AllIn}
-use Rattle.masters.specs.Cells.{WholeAt}
+use Rattle.masters.specs.Cells.{WholeCell}
 use Rattle.masters.proofs.Descent.{failed, passed, told, top-says}
 use borrow.Author.Count.{below-more}
 use borrow.Fn.Kinds.{In}
@@ -49,7 +49,7 @@ claims t = (results.Asked, results.Learnt, by-labels.Asked, by-labels.Learnt, si
 -- the blocks below that were looked at are whole
 abbrev Inv-loop : whole-in-lts.InvT-loop
 Inv-loop cells plane coverings k unit v q₀ q =
-    (q ≤ 4) × ((p : ℕ) → p < q → AllIn (k .level - 1 - 1) (WholeAt (k .levels) (k .height) (k .width) coverings plane) (k .i * 2 + p % 2) (k .j * 2 + p / 2))
+    (q ≤ 4) × ((p : ℕ) → p < q → AllIn (k .level - 1 - 1) (WholeCell (k .levels) (k .height) (k .width) coverings plane) (k .i * 2 + p % 2) (k .j * 2 + p / 2))
 
 abbrev μ-loop : whole-in-lts.MeasureT-loop
 μ-loop cells plane coverings k unit v q₀ q = 4 - q
@@ -68,7 +68,7 @@ valued t c =
 
 -- what the call on the block below says
 said : (t : ℕ) (c : whole-in-lts.After-whole-in (claims t) (whole-in-at t) whole-in.Post Inv-loop μ-loop) → let l = c .before .before .before .before in let a = l .before .before .before .before .before .before .before .args in let k = a .k in
-    T (c .whole-in .result) ↔ AllIn (k .level - 1 - 1) (WholeAt (k .levels) (k .height) (k .width) (a .coverings .now) (a .plane .now)) (k .i * 2 + l .loop .q % 2) (k .j * 2 + l .loop .q / 2)
+    T (c .whole-in .result) ↔ AllIn (k .level - 1 - 1) (WholeCell (k .levels) (k .height) (k .width) (a .coverings .now) (a .plane .now)) (k .i * 2 + l .loop .q % 2) (k .j * 2 + l .loop .q / 2)
 said t c =
     let l = c .before .before .before .before in
     let a = l .before .before .before .before .before .before .before .args in
@@ -128,7 +128,7 @@ returns-2 t c =
     let e = i .before .before .before in
     let s = e .before .before .before .before .before in
     let k = s .args .k in
-    ((λ f. absurd f), (λ all. absurd (failed (w .whole-in .result) (c .if2 .taken) (said t w .1 (went k (WholeAt (k .levels) (k .height) (k .width) (s .args .coverings .now) (s .args .plane .now)) (two t e) all (i .before .loop .q) (i .loop-test .taken))))))
+    ((λ f. absurd f), (λ all. absurd (failed (w .whole-in .result) (c .if2 .taken) (said t w .1 (went k (WholeCell (k .levels) (k .height) (k .width) (s .args .coverings .now) (s .args .plane .now)) (two t e) all (i .before .loop .q) (i .loop-test .taken))))))
 
 add-q : (t : ℕ) → whole-in-lts.Need-add-q (claims t) (whole-in-at t) whole-in.Post Inv-loop μ-loop
 add-q t c = omega arith
@@ -148,7 +148,7 @@ returns-3 t c =
     let e = l .before .before in
     let s = e .before .before .before .before .before in
     let k = s .args .k in
-    ((λ f. came k (WholeAt (k .levels) (k .height) (k .width) (s .args .coverings .now) (s .args .plane .now)) (two t e) (λ q m. l .loop .inv .1 q (omega arith))), (λ all. tt))
+    ((λ f. came k (WholeCell (k .levels) (k .height) (k .width) (s .args .coverings .now) (s .args .plane .now)) (two t e) (λ q m. l .loop .inv .1 q (omega arith))), (λ all. tt))
 
 pub +whole-in-spec : {M : Type 1} → statement M
 +whole-in-spec =

@@ -6,7 +6,7 @@ use Rattle.integers.proofs.Tests.{is-true, is-false}
 use Rattle.pyramid.specs.Plane.{halved}
 use Rattle.pyramid.proofs.Behind.{halved-shift}
 use Rattle.pyramid.proofs.Ranges.{halved-le}
-use Rattle.masters.specs.Cells.{WholeAt, AllAlong}
+use Rattle.masters.specs.Cells.{WholeCell, AllAlong}
 use Rattle.masters.proofs.Descent.{failed, passed, picture-of, in-picture, every-cell}
 use borrow.Author.Count.{below-more}
 use Rattle.masters.proofs.all_whole.Statement.{statement}
@@ -14,7 +14,7 @@ use Rattle.masters.proofs.all_whole.Tie as tie
 
 -- the block columns that were looked at are whole
 abbrev Inv-loop : tie.InvT-loop
-Inv-loop height width levels plane coverings cells unit wide j₀ j = (j ≤ wide / 4) × ((p : ℕ) → p < j → AllAlong (levels - 1) (WholeAt levels height width coverings plane) height p)
+Inv-loop height width levels plane coverings cells unit wide j₀ j = (j ≤ wide / 4) × ((p : ℕ) → p < j → AllAlong (levels - 1) (WholeCell levels height width coverings plane) height p)
 
 abbrev μ-loop : tie.MeasureT-loop
 μ-loop height width levels plane coverings cells unit wide j₀ j = wide / 4 - j
@@ -51,7 +51,7 @@ returns c =
     let s = i .before .before .before .before .before in
     let a = s .args in
     let e = every-cell (a .levels) (a .height) (a .width) (a .coverings .now) (a .plane .now) in
-    sym (is-false _ (λ t. failed (w .column-whole .result) (c .if1 .taken) (w .column-whole .ensures .1 (in-picture (a .levels) (a .height) (a .width) (s .pre .some) (s .pre .fits) (WholeAt (a .levels) (a .height) (a .width) (a .coverings .now) (a .plane .now)) (e .0 t) (i .before .loop .j) (col i)))))
+    sym (is-false _ (λ t. failed (w .column-whole .result) (c .if1 .taken) (w .column-whole .ensures .1 (in-picture (a .levels) (a .height) (a .width) (s .pre .some) (s .pre .fits) (WholeCell (a .levels) (a .height) (a .width) (a .coverings .now) (a .plane .now)) (e .0 t) (i .before .loop .j) (col i)))))
 
 add-j : tie.Need-add-j Inv-loop μ-loop
 add-j c = let i = c .before .before .before in omega (arith, col i, halved-le (i .before .before .before .before .before .args .levels - 1) (i .before .before .before .before .before .args .width), i .before .before .before .before .before .pre .width)
@@ -71,7 +71,7 @@ returns-2 c =
     let s = l .before .before .before .before in
     let a = s .args in
     let e = every-cell (a .levels) (a .height) (a .width) (a .coverings .now) (a .plane .now) in
-    sym (is-true _ (e .1 (picture-of (a .levels) (a .height) (a .width) (s .pre .some) (s .pre .fits) (WholeAt (a .levels) (a .height) (a .width) (a .coverings .now) (a .plane .now))
+    sym (is-true _ (e .1 (picture-of (a .levels) (a .height) (a .width) (s .pre .some) (s .pre .fits) (WholeCell (a .levels) (a .height) (a .width) (a .coverings .now) (a .plane .now))
     (λ j m. l .loop .inv .1 j (omega (arith, c .loop-test .left, ap (λ (n : ℕ). n / 4) (halved-shift (a .levels - 1) (a .width))))))))
 
 pub all-whole-spec : {M : Type 1} → statement M

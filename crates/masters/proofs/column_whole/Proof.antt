@@ -11,7 +11,7 @@ use Rattle.pyramid.proofs.Ranges.{halved-le}
 use Rattle.blockwise.specs.Node.{blockAt}
 use Rattle.blockwise.proofs.Ends.{asked, values-last}
 use Rattle.blockwise.specs.Cells.{AllIn}
-use Rattle.masters.specs.Cells.{WholeAt}
+use Rattle.masters.specs.Cells.{WholeCell}
 use Rattle.masters.proofs.Descent.{failed, passed, told, column-of, in-column}
 use borrow.Author.Count.{below-more}
 use borrow.Author.Needs.{needs}
@@ -20,7 +20,7 @@ use Rattle.masters.proofs.column_whole.Tie as tie
 
 -- the blocks that were looked at are whole
 abbrev Inv-loop : tie.InvT-loop
-Inv-loop cells height width levels plane coverings j unit tall i₀ i = (i ≤ tall / 4) × ((p : ℕ) → p < i → AllIn (levels - 1) (WholeAt levels height width coverings plane) p j)
+Inv-loop cells height width levels plane coverings j unit tall i₀ i = (i ≤ tall / 4) × ((p : ℕ) → p < i → AllIn (levels - 1) (WholeCell levels height width coverings plane) p j)
 
 abbrev μ-loop : tie.MeasureT-loop
 μ-loop cells height width levels plane coverings j unit tall i₀ i = tall / 4 - i
@@ -64,7 +64,7 @@ whole-in-requires c κs =
 
 -- what the call on the block says
 said : (c : tie.After-whole-in Inv-loop μ-loop) → let i = c .before .before .before in let a = i .before .before .before .args in
-    T (c .whole-in .result) ↔ AllIn (a .levels - 1) (WholeAt (a .levels) (a .height) (a .width) (a .coverings .now) (a .plane .now)) (i .before .loop .i) (a .j)
+    T (c .whole-in .result) ↔ AllIn (a .levels - 1) (WholeCell (a .levels) (a .height) (a .width) (a .coverings .now) (a .plane .now)) (i .before .loop .i) (a .j)
 said c =
     let i = c .before .before .before in
     let a = i .before .before .before .args in
@@ -76,7 +76,7 @@ returns c =
     let i = w .before .before .before in
     let s = i .before .before .before in
     let a = s .args in
-    ((λ f. absurd f), (λ all. absurd (failed (w .whole-in .result) (c .if1 .taken) (said w .1 (in-column (a .levels) (a .height) (a .width) (s .pre .1 .0 .some) (s .pre .1 .0 .fits) (WholeAt (a .levels) (a .height) (a .width) (a .coverings .now) (a .plane .now)) (a .j) all (i .before .loop .i) (row i))))))
+    ((λ f. absurd f), (λ all. absurd (failed (w .whole-in .result) (c .if1 .taken) (said w .1 (in-column (a .levels) (a .height) (a .width) (s .pre .1 .0 .some) (s .pre .1 .0 .fits) (WholeCell (a .levels) (a .height) (a .width) (a .coverings .now) (a .plane .now)) (a .j) all (i .before .loop .i) (row i))))))
 
 add-i : tie.Need-add-i Inv-loop μ-loop
 add-i c = let i = c .before .before .before .before in omega (arith, row i, halved-le (i .before .before .before .args .levels - 1) (i .before .before .before .args .height), i .before .before .before .pre .1 .0 .height)
@@ -95,7 +95,7 @@ returns-2 c =
     let l = c .before in
     let s = l .before .before in
     let a = s .args in (
-      (λ f. column-of (a .levels) (a .height) (a .width) (s .pre .1 .0 .some) (s .pre .1 .0 .fits) (WholeAt (a .levels) (a .height) (a .width) (a .coverings .now) (a .plane .now)) (a .j)
+      (λ f. column-of (a .levels) (a .height) (a .width) (s .pre .1 .0 .some) (s .pre .1 .0 .fits) (WholeCell (a .levels) (a .height) (a .width) (a .coverings .now) (a .plane .now)) (a .j)
           (λ i m. l .loop .inv .1 i (omega (arith, c .loop-test .left, ap (λ (n : ℕ). n / 4) (halved-shift (a .levels - 1) (a .height)))))),
       (λ all. tt),
     )
