@@ -1,6 +1,8 @@
 // The entries for callers in C, C++ and Rust: numbers and slices only, each answer as its refusal number, 0 where the call is accepted. A slice passes as a
 // pointer and a count of its elements. The contracts are those of the entries below; include/tetrolet.h has the declarations. Two wrong answers that the
 // contracts rule out besides: height and width in each other's place; and a number that a refused call sets to 0.
+#![tactic(auto)]
+
 ghost use Rattle.refusals.specs.Refusal.{after_call};
 ghost use Rattle.sheet.specs.Write.{WriteAnswered};
 ghost use Rattle.sheet.specs.Read.{ReadAnswered};

@@ -1,6 +1,8 @@
 // Blocks that show a covering, for calibration cards: for a covering and one to four grey steps the first choice of steps, one for each piece, whose block
 // has this covering as its only covering of cost 0. The definitions are in specs/Card.antt and their laws, `CardLaws`, in specs/Laws.antt; what the entry
 // answers and leaves is in specs/Entry.antt, and what is proved of its calls beside decomposing, `ShowLaws`, in specs/Claims.antt.
+#![tactic(auto)]
+
 ghost use Rattle.std.specs.Prelude.{◌≡◌};
 ghost use Rattle.refusals.specs.Refusal.{answer_of, shown_of, flag_of};
 ghost use Rattle.calibration.specs.Entry.{show_refusal, ShownAnswered};

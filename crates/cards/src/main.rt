@@ -1,5 +1,7 @@
 // Lists calibration cards: for each covering its number, then the sixteen samples in cell order that show it by the steps 0 1, and by the steps 0 1 2 3; `none`
 // where no choice of steps does. Each sample is a digit, so the digit tells which of the steps a cell has.
+#![tactic(auto)]
+
 use refusals::Shown;
 
 fn digit(x: u16) -> u8 {

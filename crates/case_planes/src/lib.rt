@@ -1,5 +1,7 @@
 // The planes of the cases that the programs `vectors`, `vectors_master`, `vectors_smooth` and `vectors_text` compare on: the coder's planes of pictures, kept and
 // cut too, and planes of any values. It is proved to be safe and to end, and nothing more.
+#![tactic(auto)]
+
 use cases::inputs::{Case, fill_coverings, fill_picture, fill_plane};
 use cases::safe::times;
 

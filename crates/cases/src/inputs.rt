@@ -3,7 +3,7 @@
 use crate::safe::{least, over, plus, put_byte, put_sample, put_value, rest, times};
 
 // A height, a width, a number of levels, what the slices are filled with, and how long they are: `n` for samples and values, `b` for coverings.
-#[derive(Drop)]
+#[derive(Clone, Copy)]
 pub struct Case {
     pub height: usize,
     pub width: usize,

@@ -12,7 +12,7 @@ use plain_frame::frame::{Extent, index_of, place, power};
 use plain_frame::safe::{add, opposite, signed};
 
 // What is told of a picture, with the lengths of its slices; and the lengths of those that restoring fills.
-#[derive(Drop)]
+#[derive(Clone, Copy)]
 pub struct Master {
     pub picture: Case,
     pub numerators: usize,

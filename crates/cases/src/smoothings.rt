@@ -9,7 +9,7 @@ use plain_frame::frame::{Extent, index_of, place, reach};
 use plain_frame::safe::{opposite, signed};
 
 // What is told of a picture, with the lengths of its slices; the step; and the lengths of result and scratch.
-#[derive(Drop)]
+#[derive(Clone, Copy)]
 pub struct Smoothing {
     pub picture: Case,
     pub step: u64,

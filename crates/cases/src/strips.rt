@@ -10,7 +10,7 @@ use crate::inputs::{Case, case_of, mixed};
 use crate::safe::{minus, plus, put_byte, put_value, times};
 
 // What is told of two strips, with the lengths of their slices, and the lengths of the joined ones: `n` for the plane, `b` for the coverings.
-#[derive(Drop)]
+#[derive(Clone, Copy)]
 pub struct Join {
     pub left: Case,
     pub right: Case,

@@ -4,7 +4,7 @@ use crate::safe::{byte_at, minus, plus, sample_at, value_at};
 
 // The cases of a group, those that both accept, and those on which the two differ; and of the cases and of the accepted ones how many were strips: pictures
 // whose height is not their width.
-#[derive(Drop)]
+#[derive(Clone, Copy)]
 pub struct Tally {
     pub cases: usize,
     pub accepted: usize,

@@ -12,7 +12,7 @@ use crate::strips::flawed_strip;
 
 // What is told of a picture, with the lengths of its slices, and of a window of it: its first row and column, its height and width, and the length `n` of its
 // slice.
-#[derive(Drop)]
+#[derive(Clone, Copy)]
 pub struct Window {
     pub picture: Case,
     pub top: usize,

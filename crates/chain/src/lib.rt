@@ -1,6 +1,8 @@
 // The chain of the third demand: decompose with a tolerance and a list of coverings, then keep on the plane as left, then restore what keep left, with the
 // coverings that decomposing gave and the height, the width and the levels the same throughout. What it answers and leaves, and the third demand of its own
 // slices, is in specs/Chain.antt.
+#![tactic(auto)]
+
 ghost use Rattle.std.specs.Prelude.{◌≡◌};
 ghost use Rattle.refusals.specs.Refusal.{answer_of, counted_of, count_of};
 ghost use Rattle.chain.specs.Chain.{chain_refusal, Chained};

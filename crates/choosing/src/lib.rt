@@ -1,5 +1,7 @@
 // The choice of a covering for one block in code: the covering of least cost, the choice with a tolerance, and the choice out of a list, by the costs of
 // `costing`. The definitions that it meets are those of `block` and `terms`; specs/ has what the inner functions compute.
+#![tactic(auto)]
+
 pub mod least;
 pub mod listed;
 pub mod near;

@@ -11,7 +11,7 @@ ghost use Rattle.choosing.specs.Leading.{Priced, Counted, Cheapest, stands_at, F
 use counts::Usage;
 
 // The covering that leads, 0 where none does yet, and how it stands.
-#[derive(Drop)]
+#[derive(Clone, Copy)]
 pub struct Leader {
     pub covering: u8,
     pub standing: u64,

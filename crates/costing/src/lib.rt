@@ -1,6 +1,8 @@
 // Costing: what the coverings cost in one block, in code. A covering's cost is the sum over its four pieces of the absolute tetrolet coefficients, and only 89
 // placements of a piece occur: their costs are taken once, and each covering's is the sum of four of them. Of a list only those are taken that its coverings
 // have. The costs that it meets are those of `terms`; specs/Costs.antt has what the inner functions compute.
+#![tactic(auto)]
+
 ghost use Rattle.std.specs.Prelude.{◌≡◌, cond, List, ◌+◌, ◌*◌, ◌<◌, ◌≤◌, ◌^◌, T, eqb, ℤ, nat_abs, get_or};
 ghost use Rattle.coverings.specs.Rule.{Number};
 ghost use Rattle.terms.specs.Terms.{is_list, cost_at};

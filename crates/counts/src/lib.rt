@@ -1,10 +1,12 @@
 // How often each covering stands in a list: the struct `Usage` of 117 counts, which the choice of coverings hands by value from block to block and from
 // which the usage list is written. specs/Counts.antt has the one definition of the counts, proofs/Counts.antt its laws.
+#![tactic(auto)]
+
 ghost use Rattle.std.specs.Prelude.{◌≡◌, List, [], ◌∷◌, ◌++◌, ℕ, ◌-◌, ◌+◌, ◌<◌, ◌^◌, get_or};
 ghost use Rattle.coverings.specs.Rule.{Number};
 ghost use Rattle.counts.specs.Counts.{counts_of};
 
-#[derive(Drop)]
+#[derive(Clone, Copy)]
 pub struct Usage {
     pub counts: [u32; 117],
 }

@@ -1,6 +1,8 @@
 // The coverings of a 4 by 4 block by four tetrominoes (document 01's pieces): the table of the 117 words, its rule (valid, rising, complete), which is
 // `Rule` of specs/Rule.antt and proved in proofs/Table.antt, and the entry that gives a covering's word. The table is handed out whole, so that a
 // caller binds it once and lends it where it is read in a loop.
+#![tactic(auto)]
+
 ghost use Rattle.std.specs.Prelude.{◌≡◌, length};
 ghost use Rattle.refusals.specs.Refusal.{answer_of};
 ghost use Rattle.coverings.specs.Words.{table, word_of};

@@ -3,7 +3,7 @@ use crate::answers::DIFFERS;
 use crate::texts::Ask;
 use cases::safe::plus;
 
-#[derive(Drop)]
+#[derive(Clone, Copy)]
 pub struct Seen {
     pub inputs: usize,
     pub strips: usize,

@@ -3,7 +3,7 @@ use cases::safe::{plus, rest, times};
 use plain_text::writing::{put_number, put_text};
 
 // A header; how many rows and columns follow it; and the last sample.
-#[derive(Drop)]
+#[derive(Clone, Copy)]
 pub struct Ask {
     pub height: usize,
     pub width: usize,

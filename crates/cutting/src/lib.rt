@@ -1,5 +1,7 @@
 // The cutter: text in, text out. What it prints is `cutter_text` of specs/Cutter.antt; its input is read in `cutter_text`. The work space is in here, lent
 // once to the function that works in it. Each checked answer is taken apart by let .. else, and the refusal that came back is printed by its number.
+#![tactic(auto)]
+
 ghost use Rattle.std.specs.Prelude.{◌≡◌, true, ◌||◌, ℕ, ◌*◌, ◌≤◌, ltb, length, drop};
 ghost use Rattle.pyramid.specs.Plane.{all_blocks};
 ghost use Rattle.pyramid.specs.Sides.{is_sides, is_depth};

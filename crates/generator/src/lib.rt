@@ -1,6 +1,8 @@
 // The test image: document 02's "test load from a number", the same picture on every site. Its samples are those of a linear congruential generator from
 // a 32-bit start. What the entry answers, and what it leaves in the slice, is in specs/Generator.antt. The crate stands above `coder` because its laws
 // (specs/Laws.antt) say that decompose takes every test image.
+#![tactic(auto)]
+
 ghost use Rattle.std.specs.Prelude.{◌≡◌, length};
 ghost use Rattle.refusals.specs.Refusal.{answer_of};
 ghost use Rattle.generator.specs.Generator.{step_of, output_of, samples_from, image_refusal, Generated};

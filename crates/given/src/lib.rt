@@ -1,5 +1,7 @@
 // Decomposing by given coverings: one block, one level, all levels, in the slice that holds the image. Nothing is chosen and nothing is counted. The walk over
 // the blocks and the descent over the levels are those of `analysis`, whose lemmas are for any coverings. It serves the smoothing step and is no entry.
+#![tactic(auto)]
+
 ghost use Rattle.std.specs.Prelude.{◌≡◌, ◌+◌, ◌*◌, ◌/◌, ◌<◌, ◌≤◌, length};
 ghost use Rattle.slices.specs.Stores.{scatter};
 ghost use Rattle.coverings.specs.Rule.{Number};

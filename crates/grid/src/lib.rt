@@ -1,4 +1,6 @@
 // The cells and the results of one block, read from a slice stored down columns and stored to one.
+#![tactic(auto)]
+
 ghost use Rattle.std.specs.Prelude.{◌≡◌, ℕ, ◌+◌, ◌*◌, ◌/◌, ◌<◌, ◌≤◌, length, get_or};
 ghost use Rattle.slices.specs.Stores.{scatter};
 ghost use Rattle.coverings.specs.Rule.{Number};

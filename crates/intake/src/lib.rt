@@ -1,6 +1,8 @@
 // The cutter from standard input to standard output. This crate owns the buffers, the reading and the body of the program; the programs over it are one
 // call of `run`. The contracts say how much of the input is looked at and what is printed for it. Which bytes a read of the system puts into the buffer, and
 // which a write takes out, no contract can say: those calls are C's, and their contracts speak of counts alone. The stored runs of the programs show it.
+#![tactic(auto)]
+
 ghost use Rattle.std.specs.Prelude.{◌≡◌, suc, ◌≤◌, length, take};
 ghost use Rattle.cutting.specs.Cutter.{input_limit, cutter_text, Printed};
 ghost use Rattle.intake.specs.Cuts.{CutInput};

@@ -1,6 +1,8 @@
 // The whole-number kit. Its definitions (sums, squares, tabulated lists) are in specs/; in proofs/ stand the ring laws of the whole numbers with a
 // solver by reflection, order and bounds by absolute values, what signed machine arithmetic asks and gives, laws of sums, and flat indices. Every
 // other crate stands above this one. Its two functions are the absolute value and the test for 0.
+#![tactic(auto)]
+
 ghost use Rattle.std.specs.Prelude.{◌≡◌, nat_abs};
 ghost use Rattle.integers.specs.Zero.{is_zero};
 

@@ -1,6 +1,8 @@
 // Joining: the entry join, by which two neighbouring strips become one, twice as wide. The joined plane and coverings, and their laws, are those of the
 // crate `strips`. What the entry answers and leaves is in specs/Entries.antt; what is proved of it beside the other entries, `JoiningLaws` of
 // specs/Claims.antt, is in proofs/Together.antt.
+#![tactic(auto)]
+
 ghost use Rattle.std.specs.Prelude.{◌≡◌, ℕ, length};
 ghost use Rattle.refusals.specs.Refusal.{answer_of, after_call};
 ghost use Rattle.strips.specs.Join.{joined_of, joined_covers};

@@ -1,5 +1,7 @@
 // Lists the 117 coverings: the word of each on a line, by calling the entry for every number. Then the numbers of four more calls: covering 0,
 // covering 118, a slice of fifteen places (with covering 0, so that the order of the checks shows), and covering 117.
+#![tactic(auto)]
+
 use refusals::Answer;
 
 fn digit(x: u8) -> u8 {

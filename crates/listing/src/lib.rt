@@ -1,6 +1,8 @@
 // Listing: the entries decompose with a list of coverings, out of which each block's is chosen, and restore with a list, in which each block's must stand.
 // They ask the checks of the crate `coder` and those of the list, and where none refuses do the work of `analysis` and of `coder::restore`. What they answer
 // and leave is in specs/Entries.antt; what is proved of them together, `ListingLaws` of specs/Claims.antt, is in proofs/Together.antt.
+#![tactic(auto)]
+
 ghost use Rattle.std.specs.Prelude.{◌≡◌, ℕ};
 ghost use Rattle.refusals.specs.Refusal.{answer_of, after_call};
 ghost use Rattle.integers.specs.Lists.{every, one_of};

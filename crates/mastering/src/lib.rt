@@ -1,6 +1,8 @@
 // Restoring as a master: the entry restore_master. Its checks are those of restoring and one more, the last: whether every numerator is 4^R times a whole
 // number from 0 to 4,095. That is found by the crate `masters` before anything is stored, so that a refused call leaves all it was lent; the work is then
 // restoring's own. What the entry answers and leaves is in specs/Entry.antt; what is proved of it beside the other entries is `MasterLaws` of specs/Claims.antt.
+#![tactic(auto)]
+
 ghost use Rattle.std.specs.Prelude.{◌≡◌};
 ghost use Rattle.refusals.specs.Refusal.{answer_of};
 ghost use Rattle.strips.specs.Strip.{strip_of};

@@ -1,5 +1,7 @@
 // Masters: which numerators are 4^R times a whole number from 0 to 4,095, what is proved of them, and the test of all numerators of a plane. The test finds
 // the blocks by value, from the last level down, and looks at those of the first; nothing is lent to it that it could store to.
+#![tactic(auto)]
+
 ghost use Rattle.std.specs.Prelude.{◌≡◌, ◌↔◌, ◌-◌, ◌/◌, ◌^◌, ◌<◌, ◌≤◌, T, length};
 ghost use Rattle.integers.specs.Lists.{every};
 ghost use Rattle.tables.specs.Tables.{cell_table};

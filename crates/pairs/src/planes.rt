@@ -10,7 +10,7 @@ use plain_frame::outcome::Outcome;
 use sheet::Reading;
 
 // A call: height, width and levels, the lengths of plane and coverings, and what they hold: one value among zeros, and one covering everywhere.
-#[derive(Drop)]
+#[derive(Clone, Copy)]
 pub struct Plane {
     pub height: usize,
     pub width: usize,

@@ -4,7 +4,7 @@ ghost use Rattle.pyramid.specs.Sides.{is_sides, is_depth};
 ghost use Rattle.pyramid.specs.Places.{plane_places, tetrolet_places, block_places};
 ghost use Rattle.places.specs.Walk.{Inside, Stepped, entries_left, blocks_left};
 
-#[derive(Drop)]
+#[derive(Clone, Copy)]
 pub struct Walk {
     // The level, and how many levels are left with it: 0 at the end of the walk.
     pub level: u32,

@@ -3,7 +3,7 @@ use crate::tiles::piece_at;
 use plain_frame::safe::{add, opposite, plus, rest, size, times, total, value_at};
 
 // Where a block stands: `height` is that of the whole plane, stored down columns, and the block's upper left cell is at (top, left).
-#[derive(Drop)]
+#[derive(Clone, Copy)]
 pub struct Corner {
     pub height: usize,
     pub top: usize,

@@ -8,6 +8,8 @@
 // `pyramid::restore`, `pyramid::restore_listed`, `masters::restore_master`, `windows::window` and `smoothing::smooth`; `cut::keep` and `cut::cut`; `strips::join`;
 // `generated::test_image`. A refusal is its number, and 0 stands for accepted; `cut` answers with an `Outcome`, which has a count beside it. Texts are in
 // `plain_text`, the cutter in `plain_cutter`.
+#![tactic(auto)]
+
 mod block;
 mod choice;
 pub mod cut;

@@ -1,5 +1,7 @@
 // The plain second implementation for callers in C, so that the harness of random calls (tests/fuzz.c) can hold the library to it. Proved safe only, as what
 // it calls. A slice passes as a pointer and a count of its elements; `words` are those that `plain_words` finds.
+#![tactic(auto)]
+
 use plain_frame::outcome::Outcome;
 
 // The number of an answer; what was asked for goes to `a`, which a refused call leaves as it was.

@@ -1,5 +1,7 @@
 // The cutter of the plain second implementation: text in, text out, for heights and widths up to 32. It shares no code, table or definition with the
 // coder, and is proved to be safe and to end, and nothing more.
+#![tactic(auto)]
+
 use plain::cut::{keep, most_entries};
 use plain::pyramid::decompose;
 use plain::tiles::list_words;
@@ -9,7 +11,7 @@ use plain_text::lines::{byte_after, followed, natural, number, read_line, stands
 use plain_text::writing::{put_number, put_sheet, put_text};
 
 // What the header asks for, or its refusal; and the place after the header.
-#[derive(Drop)]
+#[derive(Clone, Copy)]
 struct Task {
     refusal: u32,
     extent: Extent,

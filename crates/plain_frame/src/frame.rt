@@ -2,7 +2,7 @@
 use crate::safe::{byte_at, minus, over, plus, rest, size, times, value_at};
 
 // The height and the width of a picture, or of a part of it.
-#[derive(Drop)]
+#[derive(Clone, Copy)]
 pub struct Extent {
     pub height: usize,
     pub width: usize,

@@ -2,7 +2,7 @@
 
 // A refusal, or 0 and what was asked for: a count or a length, or height, width and levels.
 #[repr(C)]
-#[derive(Drop)]
+#[derive(Clone, Copy)]
 pub struct Outcome {
     pub refusal: u32,
     pub a: usize,

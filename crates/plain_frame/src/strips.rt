@@ -3,7 +3,7 @@ use crate::frame::{Extent, all_coverings, all_in_range, is_depth, is_extent, is_
 use crate::safe::times;
 
 // A strip: its height and width, and its levels.
-#[derive(Drop)]
+#[derive(Clone, Copy)]
 pub struct Strip {
     pub extent: Extent,
     pub levels: usize,

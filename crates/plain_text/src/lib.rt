@@ -3,6 +3,8 @@
 //
 // The entries: `writing::write`, `writing::usage` and `reading::read`. Each answers with an `Outcome` of `plain_frame`: a refusal's number, or 0 and a
 // length, or height, width and levels.
+#![tactic(auto)]
+
 pub mod lines;
 pub mod reading;
 pub mod writing;

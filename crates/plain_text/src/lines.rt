@@ -122,7 +122,7 @@ pub fn followed(text: &[u8], v: Numeral, byte: u8) -> Numeral {
 }
 
 // A line of up to five values that was read, and the place after its end. The last value is e, the one before it d, and so on.
-#[derive(Drop)]
+#[derive(Clone, Copy)]
 pub struct Line {
     pub good: bool,
     pub next: usize,

@@ -7,7 +7,7 @@ use plain_frame::outcome::{Outcome, accepted, refused};
 use plain_frame::safe::{clear, plus, put_byte, put_value};
 
 // A sheet that keeps the line rules: its first values, and where its lines stand.
-#[derive(Drop)]
+#[derive(Clone, Copy)]
 pub struct Sheet {
     pub good: bool,
     pub extent: Extent,

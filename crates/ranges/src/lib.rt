@@ -1,5 +1,7 @@
 // Ranges: whether each entry of a plane is in its range, check 6. A level's tetrolet coefficients have one bound and fill two rectangles, the low-pass has
 // another and fills one; a rectangle is looked at column by column. That this is what the definition asks of each place is in proofs/Levels.antt.
+#![tactic(auto)]
+
 ghost use Rattle.std.specs.Prelude.{◌≡◌, true, false, ◌↔◌, ◌+◌, ◌*◌, ◌^◌, ◌≤◌, T, length};
 ghost use Rattle.slices.specs.Stores.{Room};
 ghost use Rattle.pyramid.specs.Sides.{is_sides, is_depth};

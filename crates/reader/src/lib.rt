@@ -3,6 +3,8 @@
 // missing is answered by the cursor's enum, which holds the place past the line; past lines that there may be none of, the reader itself is handed back.
 // An enum cannot hold a reference, so no answer holds a reader. Whoever has a plain text calls the functions at the end, which make the reader: no
 // caller needs a proof by hand. What is read at a place is in text/specs/At.antt and Lines.antt.
+#![tactic(auto)]
+
 ghost use Rattle.std.specs.Prelude.{◌≡◌, ◌≤◌, length};
 ghost use Rattle.text.specs.At.{skip_at};
 ghost use Rattle.text.specs.Lines.{three_at, fours_at, fives_at};

@@ -4,6 +4,8 @@
 // and whether the two agree in all that they answer and leave in the slices. What is proved says that code and definition have the same limits; the stored
 // output of this program says which. Texts that are read are the part of `reckoned_text`, joined strips that of `reckoned_joins`, and masters, refusal 20, that
 // of `vectors_master`.
+#![tactic(auto)]
+
 use pairs::answers::heading;
 
 mod frames;

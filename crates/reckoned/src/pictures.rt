@@ -8,7 +8,7 @@ use pairs::front;
 use pairs::left::{Left, pair};
 
 // A call: height, width and levels, the lengths of its slices, and the samples, of which the first are lent.
-#[derive(Drop)]
+#[derive(Clone, Copy)]
 pub struct Picture {
     pub height: usize,
     pub width: usize,
@@ -21,7 +21,7 @@ pub struct Picture {
 }
 
 // A list of so many coverings: these two, then 3, 4, 5 and so on.
-#[derive(Drop)]
+#[derive(Clone, Copy)]
 pub struct List {
     pub length: usize,
     pub first: u8,

@@ -30,7 +30,7 @@ fn fill_strip(k: Case, which: usize, plane: &mut [i64], coverings: &mut [u8]) {
 }
 
 // What joining answers and leaves. Room for 2,048 places, and 170 blocks.
-#[derive(Drop)]
+#[derive(Clone, Copy)]
 struct Joined {
     answer: u32,
     plane: [i64; 2048],

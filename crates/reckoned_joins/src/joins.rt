@@ -58,7 +58,7 @@ pub fn join_by(
 }
 
 // A call: the two strips, and the lengths of the joined plane and coverings.
-#[derive(Drop)]
+#[derive(Clone, Copy)]
 struct Call {
     left: Plane,
     right: Plane,

@@ -1,5 +1,7 @@
 // Strips that are joined: the entry beside the plain second implementation, as `reckoned` does for the others. First an example and the law of the numerators
 // on strips of many kinds, then both sides of the limits of its checks.
+#![tactic(auto)]
+
 use pairs::answers::heading;
 
 mod beside;

@@ -1,4 +1,6 @@
 // Both sides of the limits of a text that is read: the entry beside the plain second implementation, as `reckoned` does for the others.
+#![tactic(auto)]
+
 use pairs::answers::heading;
 
 mod texts;

@@ -1,5 +1,7 @@
 // Refusals: the numbers of document 01's table "Turned-back work", and the answers that the entries give. A call is answered with its result or
 // with one refusal; specs/Refusal.antt says which number each has, and what a refused call leaves in the slices it was lent: what they held.
+#![tactic(auto)]
+
 ghost use Rattle.std.specs.Prelude.{◌≡◌};
 ghost use Rattle.refusals.specs.Refusal.{number_of, answer_of, counted_of, shown_of, flag_of};
 

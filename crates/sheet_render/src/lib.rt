@@ -1,4 +1,6 @@
 // A sheet, measured and written: its lines of names, the lines of its blocks and those of its entries. Refusals are the business of the crate sheet above.
+#![tactic(auto)]
+
 ghost use Rattle.std.specs.Prelude.{◌≡◌, true, ℕ, ◌+◌, ◌*◌, ◌≤◌, length, nat_abs};
 ghost use Rattle.pyramid.specs.Plane.{all_blocks};
 ghost use Rattle.pyramid.specs.Sides.{is_sides, is_depth};

@@ -10,7 +10,7 @@ use text::lines::LineOfThree;
 use text::names::Skip;
 
 // What a sheet says of its height, width and levels, and where the lines of its blocks and of its entries begin.
-#[derive(Drop)]
+#[derive(Clone, Copy)]
 pub struct Layout {
     pub height: u32,
     pub width: u32,

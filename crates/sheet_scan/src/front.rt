@@ -7,7 +7,7 @@ ghost use Rattle.sheet_scan.specs.Front.{level_number, is_ahead, walk_to, past_l
 use places::walk::Walk;
 use text::lines::Five;
 
-#[derive(Drop)]
+#[derive(Clone, Copy)]
 pub struct Front {
     // The level, and how many levels are left with it: 0 past the last.
     pub level: u32,

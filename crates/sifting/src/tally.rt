@@ -2,7 +2,7 @@
 ghost use Rattle.std.specs.Prelude.{◌≡◌, true, false, ◌+◌, ◌<◌};
 ghost use Rattle.sifting.specs.Tallies.{Tallied};
 
-#[derive(Drop)]
+#[derive(Clone, Copy)]
 pub struct Tally {
     // The rank at which entries begin to go, and how many entries of this rank may still stay.
     pub limit: u64,

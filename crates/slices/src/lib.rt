@@ -1,6 +1,8 @@
 // Lent slices: clearing one, copying one, and moving numbers, or a rectangle of one that is stored down columns, from one place to another. A slice of height
 // h has the entry of row y, column x at x * h + y. What a run of stores leaves is said by recursion in specs/Stores.antt, and entry by entry in
 // proofs/Stores.antt.
+#![tactic(auto)]
+
 ghost use Rattle.std.specs.Prelude.{◌≡◌, map, ◌+◌, ◌*◌, ◌≤◌, pos, length, replicate};
 ghost use Rattle.slices.specs.Stores.{pasted, columns, rectangles, Room};
 

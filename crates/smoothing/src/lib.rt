@@ -1,6 +1,8 @@
 // One smoothing step: the entry smooth. Its checks are those of restoring, with one for the step. The work is done in two slices: the numerators in the
 // result, their gradient in the scratch, which is decomposed by the picture's coverings; then the one plane whose numerators the result is. That this is 16 Y
 // less p times G is the law `mixed` of the crate `variation`, which has the definitions. What the entry answers and leaves is in specs/Entry.antt.
+#![tactic(auto)]
+
 ghost use Rattle.std.specs.Prelude.{◌≡◌, true, cond, List, ℕ, ◌+◌, ◌*◌, ◌-◌, ◌^◌, ◌<◌, ◌≤◌, ltb, ℤ, pos, nat_abs, ◌-ℤ◌, length, get_or, replicate};
 ghost use Rattle.refusals.specs.Refusal.{answer_of};
 ghost use Rattle.integers.specs.Lists.{half};

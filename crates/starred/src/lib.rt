@@ -1,5 +1,7 @@
 // The starred examples of document 01, "Reckoned by hand", as theorems about the definitions: one table, specs/Reckoned.antt, computed in
 // proofs/Examples.antt. No code of the coder is in it.
+#![tactic(auto)]
+
 ghost use Rattle.std.specs.Prelude.{◌≡◌, length};
 ghost use Rattle.starred.specs.Reckoned.{table, Agrees};
 

@@ -1,4 +1,6 @@
 // Restoring: the levels merged from the last to the first into the numerators, and the numerators rounded to samples.
+#![tactic(auto)]
+
 ghost use Rattle.std.specs.Prelude.{◌≡◌, map, ℕ, ◌+◌, ◌*◌, ◌/◌, ◌^◌, ◌<◌, ◌≤◌, pos, nat_abs, length, get_or, replicate};
 ghost use Rattle.slices.specs.Stores.{rectangles};
 ghost use Rattle.tables.specs.Tables.{cell_table};

@@ -1,6 +1,8 @@
 // The tables that the kernel of a block reads: the 89 placements of a piece, the four of each covering, and the cells of each covering by labels. They are
 // defined from the words of the coverings in specs/Tables.antt, and stand here as constants. Each is handed out whole, so that a caller binds it once and
 // lends it where it is read in a loop.
+#![tactic(auto)]
+
 ghost use Rattle.std.specs.Prelude.{◌≡◌};
 ghost use Rattle.tables.specs.Tables.{placement_table, four_table, cell_table};
 

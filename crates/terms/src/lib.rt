@@ -1,6 +1,8 @@
 // The terms of a choice: a tolerance, within which a covering may cost more than the least, and a list of the coverings that may be chosen. This crate has
 // definitions and laws only; the code is in `choosing`. The definitions are in specs/Terms.antt, and their laws, `TermsLaws` of specs/Laws.antt, are proved
 // in proofs/All.antt.
+#![tactic(auto)]
+
 ghost use Rattle.std.specs.Prelude.{◌≡◌};
 ghost use Rattle.terms.specs.Laws.{TermsLaws};
 ghost use Rattle.terms.specs.Reckoned.{choices, reckoned};

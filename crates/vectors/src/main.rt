@@ -5,6 +5,8 @@
 // beside the coder without a list. `join` joins two strips, and counts by the left one; `window` restores a window of a picture. `join flaws` and `window flaws`
 // have calls of which most are refused. `keep again` and `cut again` have planes that the coder cuts twice and the second implementation once. Texts and words
 // are compared by `vectors_text`, the smoothing step by `vectors_smooth`, masters by `vectors_master`.
+#![tactic(auto)]
+
 mod generated;
 mod joins;
 mod marks;

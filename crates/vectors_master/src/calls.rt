@@ -33,7 +33,7 @@ fn restore(
 }
 
 // The answer, and the slices. Room for the largest picture of a group, and one place more.
-#[derive(Drop)]
+#[derive(Clone, Copy)]
 pub struct Left {
     pub answer: u32,
     pub numerators: [i64; 1025],

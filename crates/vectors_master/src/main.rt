@@ -4,6 +4,8 @@
 // planes: its name, how many cases, how many of them both accept, how many of each are strips, whose height is not their width, and whether the two agree everywhere.
 // `master` has planes that were never cut, and others, each as it is and with a change of one entry or one covering; most that are refused there are refused by 20.
 // `master flaws` has calls of which most are refused by another number. The other entries are compared by `vectors`, `vectors_smooth` and `vectors_text`.
+#![tactic(auto)]
+
 mod calls;
 mod examples;
 mod groups;

@@ -2,6 +2,8 @@
 // each group: its name, how many cases, how many of them both accept, how many of each are strips, whose height is not their width, and whether the two agree
 // everywhere, in the answer and in all that stands in the slices after. `smooth ends` has planes whose entries are ends of their ranges, and `smooth flaws` calls
 // of which most are refused. The other entries are compared by `vectors`, `vectors_master` and `vectors_text`.
+#![tactic(auto)]
+
 mod steps;
 
 use cases::tally::tell;

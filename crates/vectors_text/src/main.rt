@@ -1,6 +1,8 @@
 // Compares the proved coder with the plain second implementation, which shares nothing with it, on many generated sheets, usage lists and words. A line
 // for each group: its name, how many cases, how many of them both accept, for sheets how many of each are strips, and whether the two agree everywhere, in
 // the answer and in all that stands in the slices after. Pictures and planes are compared by `vectors`.
+#![tactic(auto)]
+
 mod lists;
 mod sheets;
 

@@ -1,6 +1,8 @@
 // The window viewer, a product above the store: the entry window, by which a window of a picture is restored alone. Its checks are those of restoring, with
 // one for the window; the work is that of the crate `windows`. What the entry answers and leaves is in specs/Window.antt; what is proved of it beside the
 // store's restoring is `ViewerLaws` of specs/Claims.antt.
+#![tactic(auto)]
+
 ghost use Rattle.std.specs.Prelude.{◌≡◌};
 ghost use Rattle.refusals.specs.Refusal.{answer_of};
 ghost use Rattle.strips.specs.Strip.{strip_of};

@@ -1,5 +1,7 @@
 // The samples of a window, block by block: from the last level down, each block that touches the window is restored by value, once; the others are passed
 // over. Nothing but the window's slice is lent to be stored to. What is promised is told cell by cell (specs/Shown.antt): the slice shows the picture there.
+#![tactic(auto)]
+
 ghost use Rattle.std.specs.Prelude.{◌≡◌, ℕ, ◌+◌, ◌*◌, ◌-◌, ◌/◌, ◌^◌, ◌<◌, ◌≤◌, min, max, T, pos, nat_abs, length, get_or};
 ghost use Rattle.tables.specs.Tables.{cell_table};
 ghost use Rattle.pyramid.specs.Plane.{Image, halved};
@@ -12,7 +14,7 @@ ghost use Rattle.windows.specs.Shown.{Inside, touching, holding, rounded, sample
 use blockwise::Node;
 
 // A window: its first row and column, its height and width.
-#[derive(Drop)]
+#[derive(Clone, Copy)]
 pub struct View {
     pub top: usize,
     pub left: usize,

@@ -1,5 +1,7 @@
 // Words: bytes of two lent texts compared eight at a time. Document 02, wish 3: "a word of eight bytes at a time". Rattle has no load of a word from
 // bytes; the sum of the eight bytes, each with its weight and without a loop, is compiled to one load. The odd bytes are the caller's.
+#![tactic(auto)]
+
 ghost use Rattle.std.specs.Prelude.{◌≡◌, ℕ, ◌+◌, ◌*◌, ◌/◌, ◌<◌, ◌≤◌, length, drop, get_or};
 ghost use Rattle.words.specs.Words.{agree, packed};
 
