@@ -4,7 +4,7 @@ use cases::tally::{same_bytes, same_samples, same_values};
 use plain_frame::outcome::Outcome;
 
 // The answer; the plane or the numerators; samples, coverings and scratch. Room for 8 by 8 and 2 levels, and one place more.
-#[derive(Drop)]
+#[derive(Clone, Copy)]
 pub struct Left {
     pub answer: Outcome,
     pub values: [i64; 65],

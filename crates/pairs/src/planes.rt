@@ -43,7 +43,7 @@ pub fn plane_of(k: Plane) -> [i64; 65] {
 }
 
 // The lengths of the slices that restoring fills.
-#[derive(Drop)]
+#[derive(Clone, Copy)]
 pub struct Lengths {
     pub numerators: usize,
     pub samples: usize,

@@ -4,7 +4,7 @@ use plain_frame::frame::{power, times_chosen};
 use plain_frame::safe::{byte_at, minus, times, total};
 
 // How the covering of a block is chosen: with a tolerance, or without one.
-#[derive(Drop)]
+#[derive(Clone, Copy)]
 pub enum Rule {
     Least,
     Within(u64),

@@ -128,7 +128,7 @@ pub fn lengths(extent: Extent, levels: usize, plane: usize, coverings: usize) ->
     0
 }
 
-#[derive(Drop)]
+#[derive(Clone, Copy)]
 pub struct Spot {
     pub level: usize,
     pub band: usize,

@@ -3,7 +3,7 @@ use crate::frame::{Extent, area, contents, is_frame, size_refusal};
 use crate::safe::minus;
 
 // A window: its first row and its first column in the picture, and its height and width.
-#[derive(Drop)]
+#[derive(Clone, Copy)]
 pub struct Window {
     pub top: usize,
     pub left: usize,

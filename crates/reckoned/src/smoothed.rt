@@ -6,7 +6,7 @@ use pairs::left::{Left, pair};
 use pairs::planes::{Plane, plane_of, zeros};
 
 // A call: what is told of a plane, what it holds, the step, and the lengths of result and scratch.
-#[derive(Drop)]
+#[derive(Clone, Copy)]
 struct Step {
     frame: Plane,
     plane: [i64; 65],
