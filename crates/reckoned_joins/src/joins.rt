@@ -67,7 +67,7 @@ struct Call {
 }
 
 // What a call answers and leaves. Room for 8 by 16 and 2 levels, and one place more.
-#[derive(Drop)]
+#[derive(Clone, Copy)]
 struct Joined {
     answer: u32,
     plane: [i64; 129],
