@@ -1,0 +1,5 @@
+-- `c_api::tetrolet_decompose_within` meets its contract: that of the entry below. Assumes nothing.
+use Rattle.c_api.proofs.tetrolet_decompose_within.Goals as goal
+
+pub returns : goal.returns
+returns c = rw c.code.ensures c.decompose_within.ensures

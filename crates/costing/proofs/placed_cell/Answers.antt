@@ -1,0 +1,18 @@
+-- `costing::placed_cell` meets its contract. Assumes nothing.
+use mathlib.Core.Path.{◌≡◌, ap}
+use mathlib.Core.List.{List}
+use Prim.Native.Nat.{ℕ}
+use native.Mathlib.Omega.{arith}
+use lib.ListN.{get_or}
+use Rattle.tables.specs.Tables.{placement_table}
+use Rattle.costing.proofs.Placements.{placed_below}
+use Rattle.costing.proofs.placed_cell.Goals as goal
+
+is : (c : goal.Start) → get_or c.args.placements.now c.args.k 0 ≡ get_or placement_table c.args.k 0
+is c = ap (λ (t : List ℕ). get_or t c.args.k 0) c.requires.0
+
+pub overflow_cast-result : goal.overflow_cast-result
+overflow_cast-result c = omega (arith, is c.before.before, placed_below c.args.k c.requires.1)
+
+pub returns : goal.returns
+returns c = (is c.before.before, omega (arith, is c.before.before, placed_below c.args.k c.requires.1))

@@ -1,0 +1,21 @@
+-- `costing::placement_of` meets its contract. Assumes nothing.
+use mathlib.Core.Path.{◌≡◌, ap}
+use mathlib.Core.List.{List}
+use Prim.Native.Nat.{ℕ, ◌+◌, ◌*◌, ◌-◌, ◌<◌}
+use native.Mathlib.Omega.{arith}
+use lib.ListN.{get_or}
+use Rattle.costing.specs.Costs.{placement_of}
+use Rattle.costing.proofs.Placements.{placement_below}
+use Rattle.costing.proofs.placement_of.Goals as goal
+
+is : (c : goal.Start) → let x = c.args in (get_or x.fours.now ((x.covering - 1) * 4 + x.piece) 0 ≡ placement_of x.covering x.piece) × (placement_of x.covering x.piece < 89)
+unfolding placement_of
+is c =
+    let x = c.args in
+    (ap (λ (t : List ℕ). get_or t ((x.covering - 1) * 4 + x.piece) 0) c.requires.0, placement_below x.covering x.piece c.requires.1 c.requires.2)
+
+pub overflow_cast-result : goal.overflow_cast-result
+overflow_cast-result c = omega (arith, is c.before.before)
+
+pub returns : goal.returns
+returns c = let p = is c.before.before in (p.0, omega (arith, p))

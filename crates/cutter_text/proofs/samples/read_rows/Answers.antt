@@ -1,0 +1,49 @@
+-- `cutter_text::samples::read_rows` meets its contract: what is left of the lines, stored after what was read, is all of them stored. Assumes nothing.
+use mathlib.Core.Path.{◌≡◌, sym, ap, ◌∙◌}
+use Prim.Native.Nat.{ℕ, ◌-◌}
+use native.Mathlib.Omega.{arith}
+use lib.ListN.{drop}
+use Rattle.text.specs.Text.{times}
+use Rattle.cutter_text.specs.Forms.{plains}
+use Rattle.cutter_text.specs.Rows.{rows_of, passed}
+use Rattle.cutter_text.proofs.Stores.{rows_again, rows_stop, rows_done}
+use Rattle.cutter_text.proofs.samples.read_rows.Goals as goal
+
+pub loop-y-init : goal.loop-y-init
+loop-y-init c =
+    let a = c.args in
+    let z : a.height - 0 ≡ a.height = omega arith in
+    (omega arith, c.requires.2, ap (λ (j : ℕ). rows_of a.height 0 a.samples.now (times j (plains a.width) (drop a.at a.s.now))) z)
+
+pub read_row-requires : goal.read_row-requires
+read_row-requires c = (c.loop-y-test.true, c.requires.0, c.requires.1, c.loop-y.invariant.1)
+
+pub shape_of-samples-in_default : goal.shape_of-samples-in_default
+shape_of-samples-in_default c = c.read_row.auto.1.1.1.1.1.0 ∙ c.loop-y.invariant.1 ∙ sym c.requires.2
+
+pub returns-in_default : goal.returns-in_default
+returns-in_default c =
+    let l = c.loop-y in
+    let a = c.args in
+    sym (rows_stop a.height a.width l.y l.samples a.s.now l.p c.loop-y-test.true (ap (λ o. passed o a.s.now c.read_row.new.samples) (sym c.in_default.is) ∙ c.read_row.ensures))
+    ∙ l.invariant.2
+
+pub loop-y-preserved : goal.loop-y-preserved
+loop-y-preserved c =
+    let l = c.loop-y in
+    let a = c.args in
+    let t = c.loop-y-test.true in (
+      omega (arith, t),
+      c.read_row.auto.1.1.1.1.1.0 ∙ l.invariant.1,
+      rows_again a.height a.width l.y l.samples a.s.now l.p t c.read_row.new.samples c.in-To.next (ap (λ o. passed o a.s.now c.read_row.new.samples) (sym c.in-To.is) ∙ c.read_row.ensures)
+          ∙ l.invariant.2,
+    )
+
+pub shape_of-samples : goal.shape_of-samples
+shape_of-samples c = c.loop-y.invariant.1 ∙ sym c.requires.2
+
+pub returns : goal.returns
+returns c =
+    let a = c.args in
+    let l = c.loop-y in
+    sym (rows_done a.height a.width l.y l.samples a.s.now l.p (omega (arith, c.loop-y-test.false))) ∙ l.invariant.2

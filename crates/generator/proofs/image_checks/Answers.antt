@@ -1,0 +1,28 @@
+-- `generator::image_checks` meets its contract: each return by what the tests before it found. Assumes nothing.
+use Rattle.std.proofs.Common.{◌≡◌, true, sym, ◌∙◌, mul-le-mul, arith, eq-eqb, ne_eqb}
+use borrow.Author.Tests.{not-false}
+use Rattle.pyramid.specs.Sides.{is_sides}
+use Rattle.places.proofs.Sides.{sides_small}
+use Rattle.generator.proofs.image_checks.Goals as goal
+
+-- what check 1 has found
+sided : (c : goal.Else-not-are_sides) → let a = c.args in is_sides a.height a.width ≡ true
+sided c = sym c.are_sides.ensures ∙ not-false _ c.if-not-are_sides.false
+
+pub are_sides-requires : goal.are_sides-requires
+are_sides-requires c = tt
+
+pub returns-then-not-are_sides : goal.returns-then-not-are_sides
+returns-then-not-are_sides c = rw (← c.are_sides.ensures, c.if-not-are_sides.true)
+
+pub overflow_mul-width : goal.overflow_mul-width
+overflow_mul-width c =
+    let a = c.args in
+    let l = sides_small a.height a.width (sided c) in
+    omega (arith, mul-le-mul l.1 l.0)
+
+pub returns-then-samples-width : goal.returns-then-samples-width
+returns-then-samples-width c = simp (sided c.before, ne_eqb _ _ c.if-samples-width.true)
+
+pub returns : goal.returns
+returns c = simp (sided c.before, eq-eqb _ _ c.if-samples-width.false)

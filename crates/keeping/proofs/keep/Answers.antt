@@ -1,0 +1,40 @@
+-- `keeping::keep` meets its contract: its checks, then the work. Assumes nothing.
+use mathlib.Core.Path.{◌≡◌}
+use native.Mathlib.Omega.{arith}
+use Rattle.refusals.proofs.After.{refused_by, passed_by}
+use Rattle.sifting.specs.Sifting.{Ready}
+use Rattle.keeping.specs.Entries.{keep_refusal}
+use Rattle.keeping.proofs.Checks.{sized, refuses, ready, keeps}
+use Rattle.keeping.proofs.keep.Goals as goal
+
+accepted : (c : goal.In_default) → let a = c.args in 0 ≡ keep_refusal a.height a.width a.levels a.plane.now a.quota
+accepted c = passed_by c.in_default.is c.keep_checks-found.ensures
+
+passed : (c : goal.In_default) → let a = c.args in Ready a.height a.width a.levels a.plane.now
+passed c = let a = c.args in ready a.height a.width a.levels a.plane.now a.quota (accepted c)
+
+pub returns-in-Refused : goal.returns-in-Refused
+returns-in-Refused c = refuses _ _ _ _ _ c.in-Refused.r (refused_by c.in-Refused.r c.in-Refused.is c.keep_checks-found.ensures)
+
+pub overflow_cast-h : goal.overflow_cast-h
+overflow_cast-h c = omega (arith, (sized (passed c)).tall)
+
+pub overflow_cast-w : goal.overflow_cast-w
+overflow_cast-w c = omega (arith, (sized (passed c)).wide)
+
+pub overflow_cast-r : goal.overflow_cast-r
+overflow_cast-r c = omega (arith, (sized (passed c)).few)
+
+pub limit_of-limit-requires : goal.limit_of-limit-requires
+limit_of-limit-requires c = passed c
+
+pub overflow_sub-quota : goal.overflow_sub-quota
+overflow_sub-quota c = c.limit_of-limit.ensures.few
+
+pub sift-requires : goal.sift-requires
+sift-requires c = passed c.before.before.before
+
+pub returns : goal.returns
+returns c =
+    let l = c.limit_of-limit in
+    keeps _ _ _ _ _ (accepted c.before.before.before.before.before) _ l.result.base l.result.over c.sift.result l.ensures c.sift.ensures

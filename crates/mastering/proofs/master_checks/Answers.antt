@@ -1,0 +1,36 @@
+-- `mastering::master_checks` meets its contract: the checks of restoring, then the numerators. Assumes nothing.
+use mathlib.Core.Path.{◌≡◌}
+use mathlib.Core.Bool.{not}
+use Rattle.refusals.specs.Refusal.{refuse_if}
+use Rattle.refusals.proofs.After.{front_refused, front_passed}
+use Rattle.strips.specs.Strip.{Strip, strip_of}
+use Rattle.masters.specs.Whole.{are_whole}
+use Rattle.coder.proofs.Gates.{restorable}
+use Rattle.mastering.specs.Entry.{master_refusal}
+use Rattle.mastering.proofs.master_checks.Goals as goal
+
+-- the plane with its coverings
+abbrev strip : goal.Start → Strip
+strip s = strip_of s.args.height s.args.width s.args.levels s.args.plane.now s.args.coverings.now
+
+-- the last one
+behind : (c : goal.In_default) → let s = c.before.before.before.before.before in let a = c.args in
+    refuse_if (not (are_whole a.levels a.height a.width a.coverings.now a.plane.now)) 20 0 ≡ master_refusal (strip s) a.numerators.now a.samples.now a.scratch.now
+behind c = front_passed _ c.in_default.is (c.restore_checks-found.ensures _)
+
+pub restore_checks-found-requires : goal.restore_checks-found-requires
+restore_checks-found-requires c = tt
+
+pub returns-in-Refused : goal.returns-in-Refused
+returns-in-Refused c = front_refused c.in-Refused.r _ c.in-Refused.is (c.restore_checks-found.ensures _)
+
+pub all_whole-requires : goal.all_whole-requires
+all_whole-requires c =
+    let a = c.args in
+    (restorable _ _ _ _ _ a.numerators.now a.samples.now a.scratch.now (front_passed 0 c.in_default.is (c.restore_checks-found.ensures 0))).0
+
+pub returns-then-not-all_whole : goal.returns-then-not-all_whole
+returns-then-not-all_whole c = rw (← behind c.before.before, ← c.all_whole.ensures, c.if-not-all_whole.true)
+
+pub returns : goal.returns
+returns c = rw (← behind c.before.before, ← c.all_whole.ensures, c.if-not-all_whole.false)

@@ -1,0 +1,43 @@
+-- `sheet_render::sheet_length` meets its contract. Assumes nothing.
+use Prim.Native.Nat.{◌-◌}
+use native.Mathlib.Omega.{arith}
+use Rattle.text.proofs.Stamp.{width_le}
+use Rattle.places.proofs.Sides.{Passed, passed}
+use Rattle.sheet_render.proofs.Pieces.{sheet_length}
+use Rattle.sheet_render.proofs.sheet_length.Goals as goal
+
+good : (s : goal.Start) → Passed s.args.height s.args.width s.args.levels
+good s = passed s.args.height s.args.width s.args.levels s.requires.0.0 s.requires.0.1
+
+pub width-a-requires : goal.width-a-requires
+width-a-requires c = omega (arith, (good c.before).tall)
+
+pub width-b-requires : goal.width-b-requires
+width-b-requires c = omega (arith, (good c.before.before).wide)
+
+pub width-c-requires : goal.width-c-requires
+width-c-requires c = omega (arith, (good c.before.before.before).few)
+
+pub blocks_length-d-requires : goal.blocks_length-d-requires
+blocks_length-d-requires c = (c.requires.0, c.requires.1.1)
+
+pub entries_length-e-requires : goal.entries_length-e-requires
+entries_length-e-requires c = (c.requires.0, c.requires.1.0)
+
+pub overflow_add-result : goal.overflow_add-result
+overflow_add-result c = omega (arith, c.width-a.ensures, c.width-b.ensures, c.width-c.ensures, width_le 10 c.args.height, width_le 10 c.args.width, width_le 10 c.args.levels, c.blocks_length-d.ensures.1, c.entries_length-e.ensures.1)
+
+pub overflow_add-result-2 : goal.overflow_add-result-2
+overflow_add-result-2 c = omega (arith, c.width-a.ensures, c.width-b.ensures, c.width-c.ensures, width_le 10 c.args.height, width_le 10 c.args.width, width_le 10 c.args.levels, c.blocks_length-d.ensures.1, c.entries_length-e.ensures.1)
+
+pub overflow_add-result-3 : goal.overflow_add-result-3
+overflow_add-result-3 c = omega (arith, c.width-a.ensures, c.width-b.ensures, c.width-c.ensures, width_le 10 c.args.height, width_le 10 c.args.width, width_le 10 c.args.levels, c.blocks_length-d.ensures.1, c.entries_length-e.ensures.1)
+
+pub overflow_add-result-4 : goal.overflow_add-result-4
+overflow_add-result-4 c = omega (arith, c.width-a.ensures, c.width-b.ensures, c.width-c.ensures, width_le 10 c.args.height, width_le 10 c.args.width, width_le 10 c.args.levels, c.blocks_length-d.ensures.1, c.entries_length-e.ensures.1)
+
+pub overflow_add-result-5 : goal.overflow_add-result-5
+overflow_add-result-5 c = omega (arith, c.width-a.ensures, c.width-b.ensures, c.width-c.ensures, width_le 10 c.args.height, width_le 10 c.args.width, width_le 10 c.args.levels, c.blocks_length-d.ensures.1, c.entries_length-e.ensures.1)
+
+pub returns : goal.returns
+returns c = let a = c.args in omega (arith, sheet_length a.height a.width a.levels a.plane.now a.coverings.now, c.width-a.ensures, c.width-b.ensures, c.width-c.ensures, c.blocks_length-d.ensures.0, c.entries_length-e.ensures.0)

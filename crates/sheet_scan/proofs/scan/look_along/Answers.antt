@@ -1,0 +1,130 @@
+-- `sheet_scan::scan::look_along` meets its contract: what was found so far, and what is left. Assumes nothing.
+use mathlib.Core.Path.{◌≡◌, refl, sym, ap, ◌∙◌, subst}
+use mathlib.Core.List.{◌∷◌, ◌++◌}
+use Prim.Native.Nat.{◌+◌, ◌<◌}
+use native.Mathlib.Omega.{arith}
+use Rattle.text.specs.Lines.{five, lines_at, fives_at}
+use Rattle.text.proofs.Many.{FiveLine, RowRead, five_none, five_line, five_at_law, lines_stop, past_stop, past_next}
+use Rattle.pyramid.specs.Ranges.{fits_range}
+use Rattle.places.specs.Walk.{entry_of}
+use Rattle.places.proofs.Sides.{passed}
+use Rattle.integers.specs.Zero.{is_zero}
+use Rattle.sheet_text.specs.Rows.{values_of}
+use Rattle.sheet_text.specs.Sheet.{is_some}
+use Rattle.sheet_scan.specs.Scan.{fit_along}
+use Rattle.sheet_scan.specs.Front.{walk_to, Standing, places_left}
+use Rattle.sheet_scan.proofs.Scans.{some_stop, some_left, some_skip, some_line, fit_stop, fit_done, fit_skip, fit_line}
+use Rattle.sheet_scan.proofs.Fronts.{small, ended, Reached, reached, line_of, value_of, others_of}
+use Rattle.sheet_scan.proofs.scan.look_along.Goals as goal
+
+-- the line s was read
+line : (s : goal.After-seek-k) → FiveLine s.args.s.now s.loop-f.p s.in-Of.f
+line s = five_line s.args.s.now s.loop-f.p s.in-Of.f (sym s.read_five.ensures ∙ s.in-Of.is)
+
+read : (s : goal.After-seek-k) → RowRead five s.args.s.now s.loop-f.p s.in-Of.f.next
+read s = five_at_law s.args.s.now s.loop-f.p s.in-Of.f (sym s.read_five.ensures ∙ s.in-Of.is)
+
+-- the lines end where they did
+went : (s : goal.After-seek-k) → let a = s.args in fives_at a.s.now s.in-Of.f.next ≡ fives_at a.s.now a.at
+went s =
+    let a = s.args in
+    let l = s.loop-f in
+    let r = read s in
+    sym (past_next five a.s.now l.p s.in-Of.f.next r.cells (omega arith) r.read) ∙ l.invariant.3
+
+-- its place, and what is left behind it
+place : (s : goal.After-seek-k) → 0 < s.seek-k.result.left → let a = s.args in Reached a.height a.width s.in-Of.f s.loop-f.k s.seek-k.result
+place s p = let a = s.args in reached a.height a.width s.in-Of.f s.loop-f.k s.seek-k.result s.seek-k.ensures p
+
+in_plane : (e : goal.Else-k-eq0) → 0 < e.seek-k.result.left
+in_plane e = omega (arith, e.if-k-eq0.false)
+
+pub first-k-requires : goal.first-k-requires
+first-k-requires c = (c.requires.0, c.requires.1)
+
+pub loop-f-init : goal.loop-f-init
+loop-f-init c =
+    let rs = lines_at five c.args.s.now c.args.at in
+    let e = c.first-k.ensures.2 in
+    (c.first-k.ensures.0, c.first-k.ensures.1, c.requires.2, refl, ap (λ ps. is_some (values_of ps rs)) e, ap (λ ps. fit_along c.args.levels ps rs) e)
+
+pub returns-in_default : goal.returns-in_default
+returns-in_default c =
+    let a = c.args in
+    let l = c.loop-f in
+    let s = a.s.now in
+    let none = five_none s l.p (sym c.read_five.ensures ∙ c.in_default.is) in
+    let stop = lines_stop five s l.p none in
+    let rs = lines_at five s l.p in (
+      past_stop five s l.p l.invariant.2 none ∙ l.invariant.3,
+      some_stop l.rising (places_left l.k) rs stop ∙ l.invariant.4,
+      fit_stop a.levels l.fitting (places_left l.k) rs stop ∙ l.invariant.5,
+    )
+
+pub seek-k-requires : goal.seek-k-requires
+seek-k-requires c = let l = c.loop-f in (l.invariant.1, l.invariant.0)
+
+pub pass_fives-past-requires : goal.pass_fives-past-requires
+pass_fives-past-requires c = (read c.before.before).within
+
+pub returns-then-k-eq0 : goal.returns-then-k-eq0
+returns-then-k-eq0 c =
+    let s = c.before.before.before in
+    let a = c.args in
+    let l = c.loop-f in
+    let f = c.in-Of.f in
+    let x = line c.before.before.before in
+    let q = c.seek-k.ensures.skipped in
+    let K = places_left l.k in
+    let K' = places_left c.seek-k.result in
+    let e = ended c.seek-k.result (omega arith) in
+    let rs = lines_at five a.s.now l.p in
+    let rs' = lines_at five a.s.now f.next in
+    let o = others_of a.s.now l.p f x rs' q.places q.others in (
+      c.pass_fives-past.ensures ∙ went c.before.before.before,
+      some_left l.rising K' x.cells rs' rs e x.lines ∙ some_skip x.cells rs' l.rising q.places K K' rs o q.all x.lines ∙ l.invariant.4,
+      fit_done a.levels l.fitting K' rs e ∙ fit_skip x.cells rs' a.levels l.fitting q.places K K' rs o q.all x.lines ∙ l.invariant.5,
+    )
+
+pub fits_range-fits-requires : goal.fits_range-fits-requires
+fits_range-fits-requires c =
+    let i = c.seek-k.ensures.skipped.standing in
+    let q = passed c.args.height c.args.width c.args.levels c.requires.0 c.requires.1 in
+    let e = ap (λ w. w.level) c.walk_to-here.ensures in
+    (omega (arith, q.few), omega (arith, e, i.level), omega (arith, e, i.levels))
+
+pub past_line-k-requires : goal.past_line-k-requires
+past_line-k-requires c =
+    let a = c.args in
+    let q = c.seek-k.ensures in
+    let m = small a.height a.width c.seek-k.result q.skipped.standing in
+    (m.0, m.1, q.found (omega arith))
+
+pub loop-f-smaller : goal.loop-f-smaller
+loop-f-smaller c = (read c.before.before.before.before.before.before.before.before.before).less
+
+pub loop-f-preserved : goal.loop-f-preserved
+loop-f-preserved c =
+    let s = c.before.before.before.before.before.before.before.before.before in
+    let a = c.args in
+    let l = c.loop-f in
+    let f = c.in-Of.f in
+    let x = line c.before.before.before.before.before.before.before.before.before in
+    let k = c.seek-k.result in
+    let g = in_plane c.before.before.before.before.before.before.before in
+    let w = place c.before.before.before.before.before.before.before.before.before g in
+    let p = entry_of (walk_to k f) in
+    let t = places_left c.past_line-k.result in
+    let rs = lines_at five a.s.now l.p in
+    let rs' = lines_at five a.s.now f.next in
+    let o = others_of a.s.now l.p f x rs' w.places w.others in
+    let e = w.all ∙ ap (λ z. w.places ++ (p ∷ places_left z)) (sym c.past_line-k.ensures) in
+    let h = sym (line_of a.s.now l.p f x p) ∙ w.here in (
+      subst (λ z. Standing a.height a.width z) (sym c.past_line-k.ensures) c.seek-k.ensures.skipped.standing,
+      omega (arith, g, ap (λ z. z.left) c.past_line-k.ensures),
+      (read c.before.before.before.before.before.before.before.before.before).within,
+      went c.before.before.before.before.before.before.before.before.before,
+      some_line x.cells rs' l.rising c.is_zero-zero.result c.both-rising.result w.places (places_left l.k) t p rs o e x.lines h c.both-rising.ensures (c.is_zero-zero.ensures ∙ ap is_zero (value_of a.s.now l.p f x)) ∙ l.invariant.4,
+      fit_line x.cells rs' a.levels l.fitting c.fits_range-fits.result c.both-fitting.result w.places (places_left l.k) t p rs o e x.lines h c.both-fitting.ensures
+          (c.fits_range-fits.ensures ∙ (λ i. fits_range a.levels (entry_of (c.walk_to-here.ensures i)) (value_of a.s.now l.p f x i))) ∙ l.invariant.5,
+    )

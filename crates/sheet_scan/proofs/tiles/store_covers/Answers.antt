@@ -1,0 +1,93 @@
+-- `sheet_scan::tiles::store_covers` meets its contract: the slice is as the lines say up to the present place. Assumes nothing.
+use mathlib.Core.Path.{◌≡◌, refl, sym, ap, ◌∙◌, subst}
+use mathlib.Core.Bool.{true, false}
+use mathlib.Core.List.{List, ◌∷◌}
+use Prim.Native.Nat.{ℕ, ◌+◌, ◌-◌, ◌<◌}
+use native.Mathlib.Omega.{arith}
+use lib.ListN.{length-map, set, length-set, length, get_or, drop}
+use Rattle.integers.specs.Lists.{every}
+use Rattle.integers.specs.Lists.{half}
+use Rattle.integers.proofs.Half.{half_store, half_end}
+use Rattle.coverings.specs.Entry.{is_number}
+use Rattle.text.specs.Lines.{four, lines_at, cell_at}
+use Rattle.text.proofs.Many.{four_none, FourLine, four_line, lines_stop}
+use Rattle.sheet_scan.specs.Scan.{covers_along}
+use lib.Dec.{T, leb}
+use lib.Seq.{drop-cons}
+use native.Mathlib.Numerals.{add-one}
+use Rattle.integers.proofs.Tests.{every_at, is_true, both_true}
+use borrow.Author.Tests.{leb-true}
+use Rattle.sheet_scan.proofs.tiles.store_covers.Goals as goal
+
+line : (k : goal.In-Of) → FourLine k.args.s.now k.loop-i.p k.in-Of.f
+line k = four_line k.args.s.now k.loop-i.p k.in-Of.f (sym k.read_four.ensures ∙ k.in-Of.is)
+
+split : (l : List ℕ) (i x : ℕ) (t : List ℕ) → i < length l → x ∷ t ≡ drop i l → (x ≡ get_or l i 0) × (t ≡ drop (i + 1) l)
+split l i x t h e = let g : x ∷ t ≡ get_or l i 0 ∷ drop (i + 1) l = e ∙ drop-cons l i 0 h ∙ ap (λ (n : ℕ). get_or l i 0 ∷ drop n l) (sym (add-one i)) in (cc, cc)
+
+-- the line k the covering that is due
+due : (k : goal.In-Of) → let a = k.args in let l = k.loop-i in let f = k.in-Of.f in let new = covers_along (lines_at four a.s.now a.at) in
+    (f.fourth ≡ get_or new l.i 0) × (covers_along (lines_at four a.s.now f.next) ≡ drop (l.i + 1) new)
+due k =
+    let a = k.args in
+    let l = k.loop-i in
+    let x = line k in
+    let rs = lines_at four a.s.now a.at in
+    let m = length-map rs (λ r. cell_at r 3) in
+    let d = split (covers_along rs) l.i (cell_at x.cells 3) _ (omega (arith, k.requires.0, k.loop-i-test.true, l.invariant.3)) (sym (ap covers_along x.lines) ∙ l.invariant.1) in
+    (x.fourth ∙ d.0, d.1)
+
+pub loop-i-init : goal.loop-i-init
+loop-i-init c = (omega (arith, c.requires.0), refl, refl, refl)
+
+pub shape_of-coverings-in_default : goal.shape_of-coverings-in_default
+shape_of-coverings-in_default c = c.loop-i.invariant.3
+
+pub returns-in_default : goal.returns-in_default
+returns-in_default c =
+    let a = c.args in
+    let l = c.loop-i in
+    let z = ap length (lines_stop four a.s.now l.p (four_none a.s.now l.p (sym c.read_four.ensures ∙ c.in_default.is))) in
+    absurd (omega (arith, c.loop-i-test.true, l.invariant.0, l.invariant.3))
+
+pub overflow_cast-coverings : goal.overflow_cast-coverings
+overflow_cast-coverings c =
+    let k = c.before in
+    let a = c.args in
+    let l = c.loop-i in
+    let rs = lines_at four a.s.now a.at in
+    let m = length-map rs (λ r. cell_at r 3) in
+    let t = every_at is_number (covers_along rs) 0 (subst T (sym c.requires.1) tt) l.i (omega (arith, c.requires.0, c.loop-i-test.true, l.invariant.3)) in
+    let n = get_or (covers_along rs) l.i 0 in
+    let b = leb-true n 117 (both_true (leb 1 n) (leb n 117) (is_true (is_number n) t)).1 in
+    omega (arith, b, (due c.before).0)
+
+pub bounds-coverings-i : goal.bounds-coverings-i
+bounds-coverings-i c = c.loop-i-test.true
+
+pub loop-i-preserved : goal.loop-i-preserved
+loop-i-preserved c =
+    let k = c.before in
+    let a = c.args in
+    let l = c.loop-i in
+    let x = line c.before in
+    let rs = lines_at four a.s.now a.at in
+    let m = length-map rs (λ r. cell_at r 3) in
+    let f = c.in-Of.f in
+    let y = ap length x.lines in (
+      omega (arith, y, l.invariant.0),
+      (due c.before).1,
+      half_store (covers_along rs) a.coverings.now l.i 0 l.invariant.2 (due c.before).0 (omega (arith, m, c.requires.0)) (omega (arith, c.loop-i-test.true, l.invariant.3)),
+      length-set l.coverings l.i f.fourth ∙ l.invariant.3,
+    )
+
+pub shape_of-coverings : goal.shape_of-coverings
+shape_of-coverings c = c.loop-i.invariant.3
+
+pub returns : goal.returns
+returns c =
+    let a = c.args in
+    let l = c.loop-i in
+    let rs = lines_at four a.s.now a.at in
+    let m = length-map rs (λ r. cell_at r 3) in
+    l.invariant.2 ∙ half_end (covers_along rs) a.coverings.now l.i (omega (arith, m, c.requires.0)) (omega (arith, c.loop-i-test.false, l.invariant.3))

@@ -1,0 +1,24 @@
+-- `smoothing::against_behind` meets its contract. Assumes nothing.
+use Prim.Native.Nat.{◌+◌}
+use native.Mathlib.Omega.{arith}
+use lib.IntN.{pos}
+use lib.ListN.{get_or}
+use Rattle.smoothing.proofs.Cells.{read_sign}
+use Rattle.smoothing.proofs.against_behind.Goals as goal
+
+pub overflow_add-k : goal.overflow_add-k
+overflow_add-k c = omega (arith, c.requires.1 c.if-inside.true)
+
+pub offset_bounds-values-k-then-inside : goal.offset_bounds-values-k-then-inside
+offset_bounds-values-k-then-inside c = omega (arith, c.requires.1 c.if-inside.true)
+
+pub bounds-values-k-then-inside : goal.bounds-values-k-then-inside
+bounds-values-k-then-inside c = omega (arith, c.requires.1 c.if-inside.true)
+
+pub returns-then-inside : goal.returns-then-inside
+returns-then-inside c =
+    rw c.if-inside.true
+    (read_sign (get_or c.args.values.now c.args.k (pos 0)) (get_or c.args.values.now (c.args.k + c.args.on) (pos 0)) c.sign-arg-1.given c.sign-arg-then-inside-1.given c.sign.ensures)
+
+pub returns : goal.returns
+returns c = rw c.if-inside.false

@@ -1,0 +1,112 @@
+-- `smoothing::smooth_checks` meets its contract: the first two checks, then each return by what the tests before it found. Assumes nothing.
+use mathlib.Core.Path.{◌≡◌}
+use mathlib.Core.Bool.{not, ◌&&◌}
+use native.Mathlib.Nat.{mul-le-mul}
+use native.Mathlib.Omega.{arith}
+use borrow.Author.Tests.{not-false, lt-ltb, le-ltb}
+use lib.Dec.{ltb}
+use Rattle.refusals.specs.Refusal.{refuse_if}
+use Rattle.refusals.proofs.After.{front_refused, front_passed}
+use Rattle.integers.proofs.Tests.{both_true}
+use Rattle.pyramid.specs.Sides.{is_plane}
+use Rattle.strips.specs.Strip.{Strip, strip_of, is_framed, is_numbered, is_ranged, Framed}
+use Rattle.strips.proofs.Passed.{of_framed}
+use Rattle.places.proofs.Sides.{Passed, size_passed}
+use Rattle.smoothing.specs.Entry.{smooth_refusal}
+use Rattle.smoothing.proofs.smooth_checks.Goals as goal
+
+-- the plane with its coverings
+abbrev strip : goal.Start → Strip
+strip s = strip_of s.args.height s.args.width s.args.levels s.args.plane.now s.args.coverings.now
+
+good : (c : goal.In_default) → let a = c.args in Passed a.height a.width a.levels
+good c = size_passed _ _ _ c.in_default.is c.size_checks-sized.ensures
+
+-- the other four
+behind : (c : goal.In_default) → let s = c.before.before.before.before in let a = c.args in
+    refuse_if (not (is_framed (strip s) && (is_plane a.height a.width a.result.now && is_plane a.height a.width a.scratch.now))) 3
+    (refuse_if (not (is_numbered (strip s))) 5
+    (refuse_if (not (is_ranged (strip s))) 6
+    (refuse_if (ltb 255 a.step) 19 0)))
+    ≡ smooth_refusal (strip s) a.step a.result.now a.scratch.now
+behind c = front_passed _ c.in_default.is (c.size_checks-sized.ensures _)
+
+-- what check 3 finds of the plane and its coverings
+framed : (c : goal.Else-not-framed) → Framed (strip c.before.before.before.before.before.before)
+framed c =
+    let s = c.before.before.before.before.before.before in
+    of_framed (strip s) (both_true (is_framed (strip s)) (is_plane c.args.height c.args.width c.args.res.now && is_plane c.args.height c.args.width c.args.scratch.now) (rw (← c.is_framed.ensures) (not-false _ c.if-not-framed.false))).0
+
+pub size_checks-sized-requires : goal.size_checks-sized-requires
+size_checks-sized-requires c = tt
+
+pub returns-in-Refused : goal.returns-in-Refused
+returns-in-Refused c = front_refused c.in-Refused.r _ c.in-Refused.is (c.size_checks-sized.ensures _)
+
+pub overflow_mul-area : goal.overflow_mul-area
+overflow_mul-area c = let z = good c in omega (arith, mul-le-mul z.wide z.tall)
+
+pub is_framed-requires : goal.is_framed-requires
+is_framed-requires c = let z = good c in (z.tall, z.wide, z.few)
+
+pub returns-then-not-framed : goal.returns-then-not-framed
+returns-then-not-framed c = rw (← behind c.before.before, ← c.is_framed.ensures, c.if-not-framed.true)
+
+pub all_numbers-requires : goal.all_numbers-requires
+all_numbers-requires c = tt
+
+pub returns-then-not-all_numbers : goal.returns-then-not-all_numbers
+returns-then-not-all_numbers c = rw (← behind c.before.before.before.before, ← c.is_framed.ensures, c.if-not-framed.false, ← c.all_numbers.ensures, c.if-not-all_numbers.true)
+
+pub overflow_cast-height : goal.overflow_cast-height
+overflow_cast-height c = omega (arith, (good c.before.before.before.before).tall)
+
+pub overflow_cast-width : goal.overflow_cast-width
+overflow_cast-width c = omega (arith, (good c.before.before.before.before).wide)
+
+pub overflow_cast-levels : goal.overflow_cast-levels
+overflow_cast-levels c = omega (arith, (good c.before.before.before.before).few)
+
+pub in_range-requires : goal.in_range-requires
+in_range-requires c = let z = good c.before.before.before.before in record { width_value = (z.sided, z.deep); plane_len = (framed c.before.before).0 }
+
+pub returns-then-not-in_range : goal.returns-then-not-in_range
+returns-then-not-in_range c =
+    rw (
+      ← behind c.before.before.before.before.before.before,
+      ← c.is_framed.ensures,
+      c.if-not-framed.false,
+      ← c.all_numbers.ensures,
+      c.if-not-all_numbers.false,
+      ← c.in_range.ensures,
+      c.if-not-in_range.true,
+    )
+
+pub largest_step-requires : goal.largest_step-requires
+largest_step-requires c = tt
+
+pub returns-then-largest_step-step : goal.returns-then-largest_step-step
+returns-then-largest_step-step c =
+    rw (
+      ← behind c.before.before.before.before.before.before.before.before,
+      ← c.is_framed.ensures,
+      c.if-not-framed.false,
+      ← c.all_numbers.ensures,
+      c.if-not-all_numbers.false,
+      ← c.in_range.ensures,
+      c.if-not-in_range.false,
+      lt-ltb 255 c.args.step (omega (arith, c.largest_step.ensures.0, c.if-largest_step-step.true)),
+    )
+
+pub returns : goal.returns
+returns c =
+    rw (
+      ← behind c.before.before.before.before.before.before.before.before,
+      ← c.is_framed.ensures,
+      c.if-not-framed.false,
+      ← c.all_numbers.ensures,
+      c.if-not-all_numbers.false,
+      ← c.in_range.ensures,
+      c.if-not-in_range.false,
+      le-ltb 255 c.args.step (omega (arith, c.largest_step.ensures.0, c.if-largest_step-step.false)),
+    )

@@ -1,0 +1,78 @@
+-- `synthesis::results_of` meets its contract. Assumes nothing.
+use mathlib.Core.Path.{refl, sym, ap, ◌∙◌}
+use Prim.Native.Nat.{◌-◌, ◌/◌, ◌≤◌, ◌^◌}
+use native.Mathlib.Omega.{arith}
+use lib.IntN.{pos, nat_abs}
+use lib.ListN.{length, length-set}
+use mir.Syntax.{w64}
+use Rattle.integers.specs.Lists.{half}
+use Rattle.integers.proofs.Half.{half_store, half_end}
+use Rattle.integers.proofs.Signs.{kept}
+use Rattle.integers.proofs.Bound.{sfits64, read}
+use Rattle.kernel.specs.Kernel.{at}
+use Rattle.grid.specs.Grid.{band_place}
+use Rattle.synthesis.specs.Synthesis.{counted, weighted}
+use Rattle.synthesis.proofs.Merging.{weighted_length, weighted_at}
+use Rattle.grid.proofs.Near.{result_near}
+use Rattle.synthesis.proofs.results_of.Goals as goal
+
+pub loop-k-init : goal.loop-k-init
+loop-k-init c = (omega arith, c.requires.0, refl, refl, refl)
+
+pub offset_bounds-begin-k : goal.offset_bounds-begin-k
+offset_bounds-begin-k c = omega arith
+
+pub bounds-begin-k : goal.bounds-begin-k
+bounds-begin-k c = omega arith
+
+pub overflow_mul-place : goal.overflow_mul-place
+overflow_mul-place c = omega (arith, result_near c.loop-k.k c.args.height, c.loop-k.invariant.1 (c.loop-k.k / 4) (omega arith))
+
+pub overflow_add-place : goal.overflow_add-place
+overflow_add-place c = omega (arith, result_near c.loop-k.k c.args.height, c.loop-k.invariant.1 (c.loop-k.k / 4) (omega arith))
+
+pub overflow_add-place-in-loop-k : goal.overflow_add-place-in-loop-k
+overflow_add-place-in-loop-k c = omega (arith, result_near c.loop-k.k c.args.height, c.loop-k.invariant.1 (c.loop-k.k / 4) (omega arith))
+
+pub offset_bounds-image-place : goal.offset_bounds-image-place
+offset_bounds-image-place c = omega (arith, result_near c.loop-k.k c.args.height, c.loop-k.invariant.1 (c.loop-k.k / 4) (omega arith), c.well_formed)
+
+pub bounds-image-place : goal.bounds-image-place
+bounds-image-place c = omega (arith, result_near c.loop-k.k c.args.height, c.loop-k.invariant.1 (c.loop-k.k / 4) (omega arith))
+
+pub count-requires : goal.count-requires
+count-requires c =
+    let a = c.args in
+    let k = c.loop-k.k in
+    (c.requires.1.0, rw (kept c.count-arg-1.given, ← weighted_at a.weight (band_place a.height a.t3) a.image.now k (omega arith)) (c.requires.1.1 k (omega arith)))
+
+pub offset_bounds-v-k : goal.offset_bounds-v-k
+offset_bounds-v-k c = omega arith
+
+pub bounds-v-k : goal.bounds-v-k
+bounds-v-k c = omega arith
+
+pub overflow_add-k : goal.overflow_add-k
+overflow_add-k c = omega arith
+
+pub loop-k-preserved : goal.loop-k-preserved
+loop-k-preserved c =
+    let inv = c.loop-k.invariant in
+    let a = c.args in
+    let g = band_place a.height a.t3 in
+    let entry = weighted_at a.weight g a.image.now c.loop-k.k (omega arith) in
+    let bound : nat_abs (at (weighted a.weight g a.image.now) c.loop-k.k) ≤ 2 ^ 40 = c.requires.1.1 c.loop-k.k (omega arith) in (
+      omega arith,
+      inv.1,
+      inv.2,
+      simp length-set (omega arith),
+      half_store (weighted a.weight g a.image.now) _ c.loop-k.k (pos 0) inv.4
+          (read w64 (c.count.ensures ∙ ap (counted a.weight c.loop-k.k) (kept c.count-arg-1.given) ∙ sym entry) (sfits64 (at (weighted a.weight g a.image.now) c.loop-k.k) (omega arith)))
+          (weighted_length a.weight g a.image.now) (omega arith),
+    )
+
+pub returns : goal.returns
+returns c =
+    let inv = c.loop-k.invariant in
+    let a = c.args in
+    inv.4 ∙ half_end (weighted a.weight (band_place a.height a.t3) a.image.now) _ c.loop-k.k (weighted_length a.weight (band_place a.height a.t3) a.image.now) (omega arith)

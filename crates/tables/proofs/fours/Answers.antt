@@ -1,0 +1,9 @@
+-- `tables::fours` meets its contract: the constant is the defined table, by computation. Assumes nothing.
+use mathlib.Core.Path.{refl}
+use Rattle.coverings.specs.Words.{words}
+use Rattle.tables.specs.Tables.{placement_list, four_table}
+use Rattle.tables.proofs.fours.Goals as goal
+
+pub returns : goal.returns
+unfolding words placement_list four_table
+returns c = refl

@@ -1,0 +1,13 @@
+-- `text::lines::pass_fours` meets its contract. Assumes nothing.
+use mathlib.Core.Path.{◌≡◌}
+use Prim.Native.Nat.{◌≤◌, ◌-◌}
+use lib.ListN.{length, drop}
+use Rattle.text.specs.Text.{rows, any}
+use Rattle.text.specs.Lines.{four, past_of}
+use Rattle.text.proofs.lines.pass_fours.Given as goal
+
+abbrev pub invariant-loop-p : goal.invariant-loop-p
+invariant-loop-p l = (l.p ≤ length l.s) × (past_of (length l.s) (rows any four (drop l.p l.s)) ≡ past_of (length l.s) (rows any four (drop l.at l.s)))
+
+abbrev pub decreases-loop-p : goal.decreases-loop-p
+decreases-loop-p l = length l.s - l.p

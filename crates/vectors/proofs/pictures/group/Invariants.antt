@@ -1,0 +1,10 @@
+-- `vectors::pictures::group` is safe and ends. Assumes nothing.
+use Prim.Native.Nat.{◌-◌}
+use Prim.Native.Nat.{◌≤◌}
+use Rattle.vectors.proofs.pictures.group.Given as goal
+
+abbrev pub invariant-loop-c : goal.invariant-loop-c
+invariant-loop-c l = l.c ≤ 15360
+
+abbrev pub decreases-loop-c : goal.decreases-loop-c
+decreases-loop-c l = 15360 - l.c

@@ -1,0 +1,142 @@
+-- `viewer::window_checks` meets its contract: the first two checks, then each return by what the tests before it found. Assumes nothing.
+use mathlib.Core.Path.{◌≡◌}
+use mathlib.Core.Bool.{not, ◌&&◌}
+use Prim.Native.Nat.{ℕ, ◌≤◌}
+use native.Mathlib.Omega.{arith}
+use native.Mathlib.Nat.{mul-le-mul}
+use borrow.Author.Tests.{not-false}
+use Rattle.refusals.specs.Refusal.{refuse_if}
+use Rattle.refusals.proofs.After.{front_refused, front_passed}
+use Rattle.integers.proofs.Tests.{both_true}
+use Rattle.pyramid.specs.Sides.{is_plane}
+use Rattle.strips.specs.Strip.{Strip, strip_of, is_framed, is_numbered, is_ranged, Framed}
+use Rattle.strips.proofs.Passed.{of_framed}
+use Rattle.places.proofs.Sides.{Passed, size_passed}
+use Rattle.coder.proofs.Gates.{truth}
+use Rattle.windows.specs.declared.View.{View}
+use Rattle.viewer.specs.Window.{fits_window, window_refusal}
+use Rattle.windows.specs.Shown.{Inside}
+use Rattle.viewer.proofs.Gates.{inside}
+use Rattle.viewer.proofs.window_checks.Goals as goal
+
+-- the plane with its coverings
+abbrev strip : goal.Start → Strip
+strip s = strip_of s.args.height s.args.width s.args.levels s.args.plane.now s.args.coverings.now
+
+good : (c : goal.In_default) → let a = c.args in Passed a.height a.width a.levels
+good c = size_passed _ _ _ c.in_default.is c.size_checks-sized.ensures
+
+-- the other four
+behind : (c : goal.In_default) → let s = c.before.before.before.before.before in let a = c.args in
+    refuse_if (not (fits_window a.height a.width a.v)) 17
+    (refuse_if (not (is_framed (strip s) && is_plane a.v.tall a.v.wide a.samples.now)) 3
+    (refuse_if (not (is_numbered (strip s))) 5
+    (refuse_if (not (is_ranged (strip s))) 6 0)))
+    ≡ window_refusal (strip s) a.v a.samples.now
+behind c = front_passed _ c.in_default.is (c.size_checks-sized.ensures _)
+
+-- the window is inside the picture
+fits : (c : goal.Else-not-fits) → let a = c.args in Inside a.v a.height a.width
+fits c =
+    let a = c.args in
+    inside a.height a.width a.v (truth {b = fits_window a.height a.width a.v} (rw (← c.is_within.ensures, ← c.is_within-2.ensures) (not-false _ c.if-not-fits.false)))
+
+-- its sides are small
+wide_most : {h w R : ℕ} {v : View} → Inside v h w → Passed h w R → v.wide ≤ 512
+wide_most i z = omega (arith, i.across, z.wide)
+
+tall_most : {h w R : ℕ} {v : View} → Inside v h w → Passed h w R → v.tall ≤ 512
+tall_most i z = omega (arith, i.down, z.tall)
+
+-- what check 3 finds of the plane and its coverings
+framed : (c : goal.Else-not-framed) → Framed (strip c.before.before.before.before.before.before.before.before.before.before.before)
+framed c =
+    let s = c.before.before.before.before.before.before.before.before.before.before.before in
+    of_framed (strip s) (both_true (is_framed (strip s)) (is_plane c.args.v.tall c.args.v.wide c.args.samples.now) (rw (← c.is_framed.ensures) (not-false _ c.if-not-framed.false))).0
+
+-- the numbers, behind c.before.before.before.before.before.before.before.before 5
+sizes : (c : goal.Else-not-all_numbers) → let a = c.args in Passed a.height a.width a.levels
+sizes c = good c.before.before.before.before.before.before.before.before
+
+pub size_checks-sized-requires : goal.size_checks-sized-requires
+size_checks-sized-requires c = tt
+
+pub returns-in-Refused : goal.returns-in-Refused
+returns-in-Refused c = front_refused c.in-Refused.r _ c.in-Refused.is (c.size_checks-sized.ensures _)
+
+pub is_within-requires : goal.is_within-requires
+is_within-requires c = tt
+
+pub is_within-requires-2 : goal.is_within-requires-2
+is_within-requires-2 c = tt
+
+pub returns-then-not-fits : goal.returns-then-not-fits
+returns-then-not-fits c = rw (← behind c.before.before.before, ← c.is_within.ensures, ← c.is_within-2.ensures, c.if-not-fits.true)
+
+pub is_framed-requires : goal.is_framed-requires
+is_framed-requires c = let z = good c.before.before.before in (z.tall, z.wide, z.few)
+
+pub overflow_mul-framed : goal.overflow_mul-framed
+overflow_mul-framed c = let i = fits c.before.before in let z = good c.before.before.before.before.before in omega (arith, mul-le-mul (wide_most i z) (tall_most i z))
+
+pub returns-then-not-framed : goal.returns-then-not-framed
+returns-then-not-framed c =
+    rw (← behind c.before.before.before.before.before.before, ← c.is_within.ensures, ← c.is_within-2.ensures, c.if-not-fits.false, ← c.is_framed.ensures, c.if-not-framed.true)
+
+pub all_numbers-requires : goal.all_numbers-requires
+all_numbers-requires c = tt
+
+pub returns-then-not-all_numbers : goal.returns-then-not-all_numbers
+returns-then-not-all_numbers c =
+    rw (
+      ← behind c.before.before.before.before.before.before.before.before,
+      ← c.is_within.ensures,
+      ← c.is_within-2.ensures,
+      c.if-not-fits.false,
+      ← c.is_framed.ensures,
+      c.if-not-framed.false,
+      ← c.all_numbers.ensures,
+      c.if-not-all_numbers.true,
+    )
+
+pub overflow_cast-height : goal.overflow_cast-height
+overflow_cast-height c = omega (arith, (sizes c).tall)
+
+pub overflow_cast-width : goal.overflow_cast-width
+overflow_cast-width c = omega (arith, (sizes c).wide)
+
+pub overflow_cast-levels : goal.overflow_cast-levels
+overflow_cast-levels c = omega (arith, (sizes c).few)
+
+pub in_range-requires : goal.in_range-requires
+in_range-requires c = let z = sizes c in record { width_value = (z.sided, z.deep); plane_len = (framed c.before.before).0 }
+
+pub returns-then-not-in_range : goal.returns-then-not-in_range
+returns-then-not-in_range c =
+    rw (
+      ← behind c.before.before.before.before.before.before.before.before.before.before,
+      ← c.is_within.ensures,
+      ← c.is_within-2.ensures,
+      c.if-not-fits.false,
+      ← c.is_framed.ensures,
+      c.if-not-framed.false,
+      ← c.all_numbers.ensures,
+      c.if-not-all_numbers.false,
+      ← c.in_range.ensures,
+      c.if-not-in_range.true,
+    )
+
+pub returns : goal.returns
+returns c =
+    rw (
+      ← behind c.before.before.before.before.before.before.before.before.before.before,
+      ← c.is_within.ensures,
+      ← c.is_within-2.ensures,
+      c.if-not-fits.false,
+      ← c.is_framed.ensures,
+      c.if-not-framed.false,
+      ← c.all_numbers.ensures,
+      c.if-not-all_numbers.false,
+      ← c.in_range.ensures,
+      c.if-not-in_range.false,
+    )

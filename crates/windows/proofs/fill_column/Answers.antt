@@ -1,0 +1,90 @@
+-- `windows::fill_column` meets its contract. Assumes nothing.
+use mathlib.Core.Path.{refl, ◌∙◌}
+use Prim.Native.Nat.{◌+◌, ◌*◌, ◌-◌, ◌/◌, ◌<◌}
+use native.Mathlib.Omega.{arith}
+use Rattle.integers.proofs.Index.{index_bound}
+use Rattle.pyramid.specs.Plane.{halved}
+use Rattle.pyramid.proofs.Ranges.{halved_le}
+use Rattle.blockwise.specs.Node.{block_at}
+use Rattle.blockwise.proofs.Cells.{down, cell_below, block_mono}
+use Rattle.blockwise.proofs.Ends.{asked, values_last}
+use Rattle.windows.specs.Shown.{sample_at}
+use Rattle.windows.proofs.Filling.{inside_most, kept_refl, kept_trans, told}
+use borrow.Author.Count.{below_more}
+use Rattle.windows.proofs.fill_column.Goals as goal
+
+-- the block row c one of the last level
+row : (c : goal.In-loop-i) → let a = c.args in c.loop-i.i < halved (a.levels - 1) a.height / 4
+row c =
+    let a = c.args in
+    let p = c.requires.1.0 in
+    omega (arith, c.loop-i-test.true, c.Block-of.ensures, cell_below (a.levels - 1) a.height (a.v.top + a.v.tall - 1) (down (a.levels - 1) a.levels a.height a.width (omega (arith, p.0.some)) p.0.fits) (omega (arith, p.1.down, p.1.some_rows)))
+
+pub overflow_add-v : goal.overflow_add-v
+overflow_add-v c = let p = c.requires.1.0 in omega (arith, p.1.down, p.0.height)
+
+pub overflow_sub-v : goal.overflow_sub-v
+overflow_sub-v c = let p = c.requires.1.0 in omega (arith, p.1.some_rows)
+
+pub overflow_sub-levels : goal.overflow_sub-levels
+overflow_sub-levels c = let p = c.requires.1.0 in omega (arith, p.0.some)
+
+pub block_of-last-requires : goal.block_of-last-requires
+block_of-last-requires c = let p = c.requires.1.0 in omega (arith, p.0.most)
+
+pub overflow_sub-levels-2 : goal.overflow_sub-levels-2
+overflow_sub-levels-2 c = let p = c.requires.1.0 in omega (arith, p.0.some)
+
+pub block_of-i-requires : goal.block_of-i-requires
+block_of-i-requires c = let p = c.requires.1.0 in omega (arith, p.0.most)
+
+pub loop-i-init : goal.loop-i-init
+loop-i-init c = (kept_refl _ _ _, λ p l f. absurd (omega arith))
+
+pub first_node-k-requires : goal.first_node-k-requires
+first_node-k-requires c =
+    let p = c.requires.1.0.0 in
+    ((p.fits, p.some, p.most, p.height, p.width, p.covered), (row c, c.requires.1.1.0))
+
+pub last-low-requires : goal.last-low-requires
+last-low-requires c =
+    let i = c.before in
+    let a = c.args in
+    let p = c.requires.1.0.0 in
+    let below : c.loop-i.i * 2 + 1 < a.height = omega (arith, row c.before, halved_le (a.levels - 1) a.height) in
+    let across : a.j * 2 + 1 < a.width = omega (arith, c.requires.1.1.0, halved_le (a.levels - 1) a.width) in
+    (p.height, omega (arith, p.height), omega (arith, p.width), omega (arith, index_bound (a.j * 2 + 1) (c.loop-i.i * 2 + 1) a.width a.height across below, p.plane_long))
+
+pub fill-requires : goal.fill-requires
+fill-requires c =
+    let a = c.args in
+    let p = c.requires.1 in
+    let k = c.first_node-k.ensures in
+    let q = asked (block_at a.levels a.height a.width a.levels c.loop-i.i a.j) a.coverings.now a.plane.now k.0 a.unit p.0.0 k.1 p.1.1
+    (values_last a.levels a.height a.width a.coverings.now a.plane.now c.loop-i.i a.j c.last-low.ensures) in
+record { cells_value = ((c.requires.0, (q.0, (q.1, (inside_most a.v a.height a.width p.0.1 p.0.0.height p.0.0.width, c.loop-i.invariant.0.long ∙ p.0.2))))).0; restorable = ((c.requires.0, (q.0, (q.1, (inside_most a.v a.height a.width p.0.1 p.0.0.height p.0.0.width, c.loop-i.invariant.0.long ∙ p.0.2))))).1; low_value = ((c.requires.0, (q.0, (q.1, (inside_most a.v a.height a.width p.0.1 p.0.0.height p.0.0.width, c.loop-i.invariant.0.long ∙ p.0.2))))).2; inside = ((c.requires.0, (q.0, (q.1, (inside_most a.v a.height a.width p.0.1 p.0.0.height p.0.0.width, c.loop-i.invariant.0.long ∙ p.0.2))))).3 }
+
+pub overflow_add-i : goal.overflow_add-i
+overflow_add-i c =
+    let i = c.before.before.before.before.before.before in
+    omega (arith, row c.before.before.before.before.before.before, halved_le (c.args.levels - 1) c.args.height, c.requires.1.0.0.height)
+
+pub loop-i-smaller : goal.loop-i-smaller
+loop-i-smaller c = omega (arith, c.loop-i-test.true)
+
+pub loop-i-preserved : goal.loop-i-preserved
+loop-i-preserved c =
+    let a = c.args in
+    let f = told a.v (block_at a.levels a.height a.width a.levels c.loop-i.i a.j) a.coverings.now a.plane.now c.first_node-k.ensures.0 c.fill.ensures in (
+      kept_trans a.v (sample_at a.levels a.height a.width a.coverings.now a.plane.now) c.loop-i.invariant.0 f.0,
+      below_more _ _ (λ p m n y x d e. f.0.stays y x (c.loop-i.invariant.1 p m n y x d e)) (λ n. f.1),
+    )
+
+pub shape_of-samples : goal.shape_of-samples
+shape_of-samples c = c.loop-i.invariant.0.long
+
+pub returns : goal.returns
+returns c =
+    let a = c.args in
+    let d = a.levels - 1 in
+    (c.loop-i.invariant.0, λ y x e f g b r. c.loop-i.invariant.1 (halved d (y / 4)) (omega (arith, c.loop-i-test.false, c.Block-of.ensures, block_mono d y (a.v.top + a.v.tall - 1) (omega arith))) (block_mono d a.v.top y f) y x refl e f g b r)
