@@ -22,10 +22,10 @@ pub returns-in-Refused : goal.returns-in-Refused
 returns-in-Refused c = (refuses _ _ _ c.in-Refused.r (refused_by c.in-Refused.r c.in-Refused.is c.show_checks-found.ensures), laws)
 
 pub first_choice-choice-requires : goal.first_choice-choice-requires
-first_choice-choice-requires c = (c.All-words.ensures, c.placements-placements.ensures, c.fours-fours.ensures, (found c.before.before.before.before.before.before).1)
+first_choice-choice-requires c = (c.all_words-words.ensures, c.placements-placements.ensures, c.fours-fours.ensures, (found c.before.before.before.before.before.before).1)
 
 pub put_card-requires : goal.put_card-requires
-put_card-requires c = (c.All-words.ensures, (found c.before.before.before.before.before.before.before.before.before.before.before.before).1, (found c.before.before.before.before.before.before.before.before.before.before.before.before).0)
+put_card-requires c = (c.all_words-words.ensures, (found c.before.before.before.before.before.before.before.before.before.before.before.before).1, (found c.before.before.before.before.before.before.before.before.before.before.before.before).0)
 
 pub returns-in-Steps : goal.returns-in-Steps
 returns-in-Steps c =

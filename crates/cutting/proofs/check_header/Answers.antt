@@ -32,7 +32,7 @@ pub returns-in_default : goal.returns-in_default
 returns-in_default c = no_header c.args.s.now (short c.before.before.before) c.read_header-found.result c.in_default.field-0 c.in_default.is c.read_header-found.ensures
 
 pub returns-then-not-are_sides : goal.returns-then-not-are_sides
-returns-then-not-are_sides c = no_sides c.args.s.now (short c.before.before.before.before.before.before) c.in-Of.h (head c.before.before) (sym c.are_sides.ensures ∙ not-true _ c.if-not-are_sides.true)
+returns-then-not-are_sides c = no_sides c.args.s.now (short c.before.before.before.before.before.before) c.in-Of.h (head c.before.before) (sym c.are_sides.ensures ∙ c.if-not-are_sides.true)
 
 pub returns-then-is_large : goal.returns-then-is_large
 returns-then-is_large c = too_large c.args.s.now (short c.before.before.before.before.before.before.before.before) c.in-Of.h (head c.before.before.before.before) (sides c.before.before) (sym c.is_large.ensures ∙ c.if-is_large.true)
@@ -41,7 +41,7 @@ pub is_depth-requires : goal.is_depth-requires
 is_depth-requires c = let h = c.in-Of.h in sides_small h.height h.width (sides c.before.before)
 
 pub returns-then-not-is_depth : goal.returns-then-not-is_depth
-returns-then-not-is_depth c = no_depth c.args.s.now (short c.before.before.before.before.before.before.before.before.before.before) c.in-Of.h (head c.before.before.before.before.before.before) (sides c.before.before.before.before) (small c.before.before) (sym c.is_depth.ensures ∙ not-true _ c.if-not-is_depth.true)
+returns-then-not-is_depth c = no_depth c.args.s.now (short c.before.before.before.before.before.before.before.before.before.before) c.in-Of.h (head c.before.before.before.before.before.before) (sides c.before.before.before.before) (small c.before.before) (sym c.is_depth.ensures ∙ c.if-not-is_depth.true)
 
 pub returns : goal.returns
-returns c = passes c.args.s.now (short c.before.before.before.before.before.before.before.before.before.before) c.in-Of.h (head c.before.before.before.before.before.before) (sides c.before.before.before.before) (small c.before.before) (sym c.is_depth.ensures ∙ not-false _ c.if-not-is_depth.false)
+returns c = passes c.args.s.now (short c.before.before.before.before.before.before.before.before.before.before) c.in-Of.h (head c.before.before.before.before.before.before) (sides c.before.before.before.before) (small c.before.before) (sym c.is_depth.ensures ∙ c.if-not-is_depth.false)

@@ -7,7 +7,7 @@ use Rattle.generator.proofs.image_checks.Goals as goal
 
 -- what check 1 has found
 sided : (c : goal.Else-not-are_sides) → let a = c.args in is_sides a.height a.width ≡ true
-sided c = sym c.are_sides.ensures ∙ not-false _ c.if-not-are_sides.false
+sided c = sym c.are_sides.ensures ∙ c.if-not-are_sides.false
 
 pub are_sides-requires : goal.are_sides-requires
 are_sides-requires c = tt

@@ -36,7 +36,7 @@ framed c =
     let s = c.before.before.before.before.before.before.before.before.before.before in
     let w = wide_of (left s) c.args.plane.now c.args.coverings.now in
     let f : (is_framed (left s) && (is_framed (right s) && is_framed w)) ≡ true
-    = rw (← c.is_framed.ensures, ← c.is_framed-2.ensures, ← c.is_framed-3.ensures) (not-false _ c.if-not-framed.false) in
+    = rw (← c.is_framed.ensures, ← c.is_framed-2.ensures, ← c.is_framed-3.ensures) c.if-not-framed.false in
     let a = both_true (is_framed (left s)) (is_framed (right s) && is_framed w) f in
     let b = both_true (is_framed (right s)) (is_framed w) a.1 in
     (of_framed (left s) a.0, of_framed (right s) b.0)

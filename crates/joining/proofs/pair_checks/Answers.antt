@@ -10,10 +10,10 @@ use Rattle.places.proofs.Sides.{sides_small}
 use Rattle.joining.proofs.pair_checks.Goals as goal
 
 sided : (c : goal.Else-not-sided) → let a = c.args in (is_sides a.left-height a.left-width && is_sides a.right-height a.right-width) ≡ true
-sided c = rw (← c.are_sides.ensures, ← c.are_sides-2.ensures) (not-false _ c.if-not-sided.false)
+sided c = rw (← c.are_sides.ensures, ← c.are_sides-2.ensures) c.if-not-sided.false
 
 deep : (c : goal.Else-not-deep) → let a = c.args in (is_depth a.left-levels a.left-height a.left-width && is_depth a.right-levels a.right-height a.right-width) ≡ true
-deep c = rw (← c.is_depth.ensures, ← c.is_depth-2.ensures) (not-false _ c.if-not-deep.false)
+deep c = rw (← c.is_depth.ensures, ← c.is_depth-2.ensures) c.if-not-deep.false
 
 pub are_sides-requires : goal.are_sides-requires
 are_sides-requires c = tt

@@ -34,7 +34,7 @@ pub in_range-requires : goal.in_range-requires
 in_range-requires c = let z = good c.before in record { width_value = (z.sided, z.deep); plane_len = c.if-plane-width.false }
 
 pub returns-then-not-in_range : goal.returns-then-not-in_range
-returns-then-not-in_range c = let z = good c.before.before.before in λ rest. simp (z.sided, z.deep, eq-eqb _ _ c.if-plane-width.false, sym c.in_range.ensures ∙ not-true _ c.if-not-in_range.true)
+returns-then-not-in_range c = let z = good c.before.before.before in λ rest. simp (z.sided, z.deep, eq-eqb _ _ c.if-plane-width.false, sym c.in_range.ensures ∙ c.if-not-in_range.true)
 
 pub returns : goal.returns
-returns c = let z = good c.before.before.before in λ rest. simp (z.sided, z.deep, eq-eqb _ _ c.if-plane-width.false, sym c.in_range.ensures ∙ not-false _ c.if-not-in_range.false)
+returns c = let z = good c.before.before.before in λ rest. simp (z.sided, z.deep, eq-eqb _ _ c.if-plane-width.false, sym c.in_range.ensures ∙ c.if-not-in_range.false)

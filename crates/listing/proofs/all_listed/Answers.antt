@@ -19,12 +19,12 @@ bounds-marks-n c = omega (arith, c.type_inv.coverings c.loop-i.i)
 pub returns-then-not-marks-n : goal.returns-then-not-marks-n
 returns-then-not-marks-n c =
     let i = c.loop-i.i in
-    sym (every_stop _ c.args.coverings.now 0 i (omega arith) (sym (c.marks_of-marks.ensures.1 _ (omega (arith, c.type_inv.coverings i))) ∙ not-true _ c.if-not-marks-n.true)) ∙ c.loop-i.invariant.1
+    sym (every_stop _ c.args.coverings.now 0 i (omega arith) (sym (c.marks_of-marks.ensures.1 _ (omega (arith, c.type_inv.coverings i))) ∙ c.if-not-marks-n.true)) ∙ c.loop-i.invariant.1
 
 pub loop-i-preserved : goal.loop-i-preserved
 loop-i-preserved c =
     let i = c.loop-i.i in
-    (omega arith, sym (every_next _ c.args.coverings.now 0 i (omega arith) (sym (c.marks_of-marks.ensures.1 _ (omega (arith, c.type_inv.coverings i))) ∙ not-false _ c.if-not-marks-n.false)) ∙ c.loop-i.invariant.1)
+    (omega arith, sym (every_next _ c.args.coverings.now 0 i (omega arith) (sym (c.marks_of-marks.ensures.1 _ (omega (arith, c.type_inv.coverings i))) ∙ c.if-not-marks-n.false)) ∙ c.loop-i.invariant.1)
 
 pub returns : goal.returns
 returns c = sym (every_end _ _ c.loop-i.i (omega arith)) ∙ c.loop-i.invariant.1

@@ -13,7 +13,7 @@ returns-then-not-is_list c = λ rest. rw (← c.is_list.ensures, c.if-not-is_lis
 pub returns-then-all_listed : goal.returns-then-all_listed
 returns-then-all_listed c =
     let a = c.args in
-    let good : is_list a.list.now ≡ true = sym c.is_list.ensures ∙ not-false _ c.if-not-is_list.false in
+    let good : is_list a.list.now ≡ true = sym c.is_list.ensures ∙ c.if-not-is_list.false in
     let stand : every (one_of a.list.now) a.coverings.now ≡ true = sym c.all_listed.ensures ∙ c.if-all_listed.true in
     λ rest. rw (good, stand_numbers a.list.now a.coverings.now good stand, stand)
 

@@ -21,12 +21,12 @@ loop-a-init c = (omega arith, refl)
 pub returns-then-not-is_whole : goal.returns-then-not-is_whole
 returns-then-not-is_whole c =
     let a = c.args in
-    sym (c.loop-a.invariant.1 ∙ every_stop (is_whole a.levels) a.v.now (pos 0) c.loop-a.a (omega (arith, c.requires)) (sym (said c.before) ∙ not-true _ c.if-not-is_whole.true))
+    sym (c.loop-a.invariant.1 ∙ every_stop (is_whole a.levels) a.v.now (pos 0) c.loop-a.a (omega (arith, c.requires)) (sym (said c.before) ∙ c.if-not-is_whole.true))
 
 pub loop-a-preserved : goal.loop-a-preserved
 loop-a-preserved c =
     let a = c.args in
-    (omega arith, c.loop-a.invariant.1 ∙ every_next (is_whole a.levels) a.v.now (pos 0) c.loop-a.a (omega (arith, c.requires)) (sym (said c.before) ∙ not-false _ c.if-not-is_whole.false))
+    (omega arith, c.loop-a.invariant.1 ∙ every_next (is_whole a.levels) a.v.now (pos 0) c.loop-a.a (omega (arith, c.requires)) (sym (said c.before) ∙ c.if-not-is_whole.false))
 
 pub returns : goal.returns
 returns c =

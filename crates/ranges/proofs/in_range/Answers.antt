@@ -28,7 +28,7 @@ pub returns-then-not-rectangle_bounded : goal.returns-then-not-rectangle_bounded
 returns-then-not-rectangle_bounded c =
     let l = c.loop-left in
     not_right l.invariant.2 (omega arith) c.requires.1 l.invariant.1
-    (λ r. subst T (not-true c.rectangle_bounded.result c.if-not-rectangle_bounded.true) (c.rectangle_bounded.ensures.1 r))
+    (λ r. subst T c.if-not-rectangle_bounded.true (c.rectangle_bounded.ensures.1 r))
 
 pub rectangle_bounded-requires-in-loop-left : goal.rectangle_bounded-requires-in-loop-left
 rectangle_bounded-requires-in-loop-left c =
@@ -40,7 +40,7 @@ pub returns-then-not-rectangle_bounded-2 : goal.returns-then-not-rectangle_bound
 returns-then-not-rectangle_bounded-2 c =
     let l = c.loop-left in
     not_below l.invariant.2 (omega arith) c.requires.1 l.invariant.1
-    (λ r. subst T (not-true c.rectangle_bounded-in-loop-left.result c.if-not-rectangle_bounded-2.true) (c.rectangle_bounded-in-loop-left.ensures.1 r))
+    (λ r. subst T c.if-not-rectangle_bounded-2.true (c.rectangle_bounded-in-loop-left.ensures.1 r))
 
 pub overflow_mul-most : goal.overflow_mul-most
 overflow_mul-most c = let l = c.loop-left in omega (arith, most-here l.invariant.2 (omega arith) c.requires.1 l.invariant.1)
@@ -52,8 +52,8 @@ loop-left-preserved c =
       omega (arith, l.invariant.0),
       next-most l.invariant.2 (omega arith) p l.invariant.1,
       next l.invariant.2 (omega arith) p l.invariant.1
-          (c.rectangle_bounded.ensures.0 (subst⁻¹ T (not-false c.rectangle_bounded.result c.if-not-rectangle_bounded.false) tt))
-          (c.rectangle_bounded-in-loop-left.ensures.0 (subst⁻¹ T (not-false c.rectangle_bounded-in-loop-left.result c.if-not-rectangle_bounded-2.false) tt)),
+          (c.rectangle_bounded.ensures.0 (subst⁻¹ T c.if-not-rectangle_bounded.false tt))
+          (c.rectangle_bounded-in-loop-left.ensures.0 (subst⁻¹ T c.if-not-rectangle_bounded-2.false tt)),
     )
 
 pub rectangle_bounded-requires-2 : goal.rectangle_bounded-requires-2

@@ -26,14 +26,14 @@ returns-then-not-run_bounded c =
     let a = c.args in
     let k = c.loop-c.c in (
       (λ t. absurd t),
-      (λ r. absurd (subst T (not-true c.run_bounded.result c.if-not-run_bounded.true) (c.run_bounded.ensures.1 (rectangle_column a.low a.most a.plane.now a.height a.first a.tall a.wide k (omega arith) r)))),
+      (λ r. absurd (subst T c.if-not-run_bounded.true (c.run_bounded.ensures.1 (rectangle_column a.low a.most a.plane.now a.height a.first a.tall a.wide k (omega arith) r)))),
     )
 
 pub loop-c-preserved : goal.loop-c-preserved
 loop-c-preserved c =
     let a = c.args in
     let l = c.loop-c in
-    (search rules, rectangle_next a.low a.most a.plane.now a.height a.first a.tall l.c l.invariant.1 (c.run_bounded.ensures.0 (subst⁻¹ T (not-false c.run_bounded.result c.if-not-run_bounded.false) tt)))
+    (search rules, rectangle_next a.low a.most a.plane.now a.height a.first a.tall l.c l.invariant.1 (c.run_bounded.ensures.0 (subst⁻¹ T c.if-not-run_bounded.false tt)))
 
 pub returns : goal.returns
 returns c =

@@ -26,14 +26,14 @@ pub returns-then-not-is_low : goal.returns-then-not-is_low
 returns-then-not-is_low c =
     let l = c.loop-k in
     let e = tested c.before in
-    ((λ t. absurd t), (λ r. absurd (subst T (not-true c.is_low.result c.if-not-is_low.true) (e.1 (r l.k (omega arith))))))
+    ((λ t. absurd t), (λ r. absurd (subst T c.if-not-is_low.true (e.1 (r l.k (omega arith))))))
 
 pub loop-k-preserved : goal.loop-k-preserved
 loop-k-preserved c =
     let a = c.args in
     let l = c.loop-k in
     let e = tested c.before in
-    (search rules, run_next true a.most a.plane.now a.first l.k l.invariant.1 (e.0 (subst⁻¹ T (not-false c.is_low.result c.if-not-is_low.false) tt)))
+    (search rules, run_next true a.most a.plane.now a.first l.k l.invariant.1 (e.0 (subst⁻¹ T c.if-not-is_low.false tt)))
 
 pub returns : goal.returns
 returns c =

@@ -17,7 +17,7 @@ good c = size_passed _ _ _ c.in_default.is c.size_checks-sized.ensures
 framed : (c : goal.Else-not-framed) → let a = c.args in (length a.plane.now ≡ a.width * a.height) × (length a.coverings.now ≡ c.count_blocks-blocks.result)
 framed c =
     let a = c.args in
-    let e = both_true (eqb (length a.plane.now) (a.width * a.height)) (eqb (length a.coverings.now) c.count_blocks-blocks.result) (not-false _ c.if-not-framed.false) in
+    let e = both_true (eqb (length a.plane.now) (a.width * a.height)) (eqb (length a.coverings.now) c.count_blocks-blocks.result) c.if-not-framed.false in
     (eqb-true _ _ e.0, eqb-true _ _ e.1)
 
 pub size_checks-sized-requires : goal.size_checks-sized-requires
@@ -61,7 +61,7 @@ sheet_length-bytes-requires c =
     let f = framed c.before.before.before.before in
     let b = c.count_blocks-blocks.ensures in
     let z = good c.before.before.before.before.before.before in
-    ((z.sided, z.deep), ((f.0, sym c.in_range.ensures ∙ not-false _ c.if-not-in_range.false), (f.1 ∙ b.0, omega (arith, f.1, b.1))))
+    ((z.sided, z.deep), ((f.0, sym c.in_range.ensures ∙ c.if-not-in_range.false), (f.1 ∙ b.0, omega (arith, f.1, b.1))))
 
 pub returns-then-buffer-bytes : goal.returns-then-buffer-bytes
 returns-then-buffer-bytes c =

@@ -35,7 +35,7 @@ behind c = front_passed _ c.in_default.is (c.size_checks-sized.ensures _)
 framed : (c : goal.Else-not-framed) → Framed (strip c.before.before.before.before.before.before)
 framed c =
     let s = c.before.before.before.before.before.before in
-    of_framed (strip s) (both_true (is_framed (strip s)) (is_plane c.args.height c.args.width c.args.res.now && is_plane c.args.height c.args.width c.args.scratch.now) (rw (← c.is_framed.ensures) (not-false _ c.if-not-framed.false))).0
+    of_framed (strip s) (both_true (is_framed (strip s)) (is_plane c.args.height c.args.width c.args.res.now && is_plane c.args.height c.args.width c.args.scratch.now) (rw (← c.is_framed.ensures) c.if-not-framed.false)).0
 
 pub size_checks-sized-requires : goal.size_checks-sized-requires
 size_checks-sized-requires c = tt

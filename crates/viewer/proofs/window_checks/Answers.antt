@@ -39,7 +39,7 @@ behind c = front_passed _ c.in_default.is (c.size_checks-sized.ensures _)
 fits : (c : goal.Else-not-fits) → let a = c.args in Inside a.v a.height a.width
 fits c =
     let a = c.args in
-    inside a.height a.width a.v (truth {b = fits_window a.height a.width a.v} (rw (← c.is_within.ensures, ← c.is_within-2.ensures) (not-false _ c.if-not-fits.false)))
+    inside a.height a.width a.v (truth {b = fits_window a.height a.width a.v} (rw (← c.is_within.ensures, ← c.is_within-2.ensures) c.if-not-fits.false))
 
 -- its sides are small
 wide_most : {h w R : ℕ} {v : View} → Inside v h w → Passed h w R → v.wide ≤ 512
@@ -52,7 +52,7 @@ tall_most i z = omega (arith, i.down, z.tall)
 framed : (c : goal.Else-not-framed) → Framed (strip c.before.before.before.before.before.before.before.before.before.before.before)
 framed c =
     let s = c.before.before.before.before.before.before.before.before.before.before.before in
-    of_framed (strip s) (both_true (is_framed (strip s)) (is_plane c.args.v.tall c.args.v.wide c.args.samples.now) (rw (← c.is_framed.ensures) (not-false _ c.if-not-framed.false))).0
+    of_framed (strip s) (both_true (is_framed (strip s)) (is_plane c.args.v.tall c.args.v.wide c.args.samples.now) (rw (← c.is_framed.ensures) c.if-not-framed.false)).0
 
 -- the numbers, behind c.before.before.before.before.before.before.before.before 5
 sizes : (c : goal.Else-not-all_numbers) → let a = c.args in Passed a.height a.width a.levels

@@ -18,7 +18,7 @@ row : (c : goal.In-loop-i) → let a = c.args in c.loop-i.i < halved (a.levels -
 row c =
     let a = c.args in
     let p = c.requires.1.0 in
-    omega (arith, c.loop-i-test.true, c.Block-of.ensures, cell_below (a.levels - 1) a.height (a.v.top + a.v.tall - 1) (down (a.levels - 1) a.levels a.height a.width (omega (arith, p.0.some)) p.0.fits) (omega (arith, p.1.down, p.1.some_rows)))
+    omega (arith, c.loop-i-test.true, c.block_of-last.ensures, cell_below (a.levels - 1) a.height (a.v.top + a.v.tall - 1) (down (a.levels - 1) a.levels a.height a.width (omega (arith, p.0.some)) p.0.fits) (omega (arith, p.1.down, p.1.some_rows)))
 
 pub overflow_add-v : goal.overflow_add-v
 overflow_add-v c = let p = c.requires.1.0 in omega (arith, p.1.down, p.0.height)
@@ -87,4 +87,4 @@ pub returns : goal.returns
 returns c =
     let a = c.args in
     let d = a.levels - 1 in
-    (c.loop-i.invariant.0, λ y x e f g b r. c.loop-i.invariant.1 (halved d (y / 4)) (omega (arith, c.loop-i-test.false, c.Block-of.ensures, block_mono d y (a.v.top + a.v.tall - 1) (omega arith))) (block_mono d a.v.top y f) y x refl e f g b r)
+    (c.loop-i.invariant.0, λ y x e f g b r. c.loop-i.invariant.1 (halved d (y / 4)) (omega (arith, c.loop-i-test.false, c.block_of-last.ensures, block_mono d y (a.v.top + a.v.tall - 1) (omega arith))) (block_mono d a.v.top y f) y x refl e f g b r)

@@ -20,7 +20,7 @@ col c =
     let s = start c.before in
     let a = s.args in
     let p = s.pre.0 in
-    omega (arith, c.loop-j-test.true, c.Block-of.ensures, cell_below (a.levels - 1) a.width (a.v.left + a.v.wide - 1) (across (a.levels - 1) a.levels a.height a.width (omega (arith, p.some)) p.fits) (omega (arith, s.pre.1.0.across, s.pre.1.0.some_columns)))
+    omega (arith, c.loop-j-test.true, c.block_of-last.ensures, cell_below (a.levels - 1) a.width (a.v.left + a.v.wide - 1) (across (a.levels - 1) a.levels a.height a.width (omega (arith, p.some)) p.fits) (omega (arith, s.pre.1.0.across, s.pre.1.0.some_columns)))
 
 pub cells-cells-requires : goal.cells-cells-requires
 cells-cells-requires c = tt
@@ -81,4 +81,4 @@ returns c =
     let s = start l in
     let a = s.args in
     let d = a.levels - 1 in
-    (c.loop-j.invariant.0.long ∙ s.pre.1.1, λ y x f g b r. c.loop-j.invariant.1 (halved d (x / 4)) (omega (arith, c.loop-j-test.false, c.Block-of.ensures, block_mono d x (a.v.left + a.v.wide - 1) (omega arith))) (block_mono d a.v.left x b) y x refl f g b r)
+    (c.loop-j.invariant.0.long ∙ s.pre.1.1, λ y x f g b r. c.loop-j.invariant.1 (halved d (x / 4)) (omega (arith, c.loop-j-test.false, c.block_of-last.ensures, block_mono d x (a.v.left + a.v.wide - 1) (omega arith))) (block_mono d a.v.left x b) y x refl f g b r)

@@ -25,7 +25,7 @@ returns-then-not-same_word c =
     let a = c.args in
     let i = c.loop-i.i in
     let n = length a.t.now / 8 * 8 in
-    let f : agree 8 (drop (a.at + i) a.s.now) (drop i a.t.now) ≡ false = sym c.same_word.ensures ∙ not-true c.same_word.result c.if-not-same_word.true in
+    let f : agree 8 (drop (a.at + i) a.s.now) (drop i a.t.now) ≡ false = sym c.same_word.ensures ∙ c.if-not-same_word.true in
     sym (sym c.loop-i.invariant.2 ∙ agree_word (n - i) (n - (i + 8)) a.s.now a.t.now (a.at + i) i (omega arith) ∙ ap (λ (b : Bool). b && agree (n - (i + 8)) (drop (a.at + i + 8) a.s.now) (drop (i + 8) a.t.now)) f)
 
 pub loop-i-smaller : goal.loop-i-smaller
@@ -36,7 +36,7 @@ loop-i-preserved c =
     let a = c.args in
     let i = c.loop-i.i in
     let n = length a.t.now / 8 * 8 in
-    let f : agree 8 (drop (a.at + i) a.s.now) (drop i a.t.now) ≡ true = sym c.same_word.ensures ∙ not-false c.same_word.result c.if-not-same_word.false in
+    let f : agree 8 (drop (a.at + i) a.s.now) (drop i a.t.now) ≡ true = sym c.same_word.ensures ∙ c.if-not-same_word.false in
     let w : a.at + (i + 8) ≡ a.at + i + 8 = omega arith in (
       omega arith,
       omega arith,

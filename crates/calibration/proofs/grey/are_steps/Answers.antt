@@ -17,7 +17,7 @@ rise-requires c = omega (arith, c.most_steps.ensures.0)
 pub returns-then-not-rise : goal.returns-then-not-rise
 returns-then-not-rise c =
     not-rising c.args.steps.now (omega arith) (omega (arith, c.most_steps.ensures.0))
-    (sym c.rise.ensures ∙ not-true _ c.if-not-rise.true)
+    (sym c.rise.ensures ∙ c.if-not-rise.true)
 
 pub in_range-requires : goal.in_range-requires
 in_range-requires c = omega (arith, c.most_steps.ensures.0)
@@ -25,4 +25,4 @@ in_range-requires c = omega (arith, c.most_steps.ensures.0)
 pub returns : goal.returns
 returns c =
     rising c.args.steps.now (omega arith) (omega (arith, c.most_steps.ensures.0))
-    (sym c.rise.ensures ∙ not-false _ c.if-not-rise.false) c.in_range.ensures
+    (sym c.rise.ensures ∙ c.if-not-rise.false) c.in_range.ensures

@@ -43,7 +43,7 @@ pub returns-then-not-no_tie : goal.returns-then-not-no_tie
 returns-then-not-no_tie c =
     let x = c.args in
     let inv = c.loop-m.invariant in
-    whole x.covering (at x.v.now) inv.4 (sym inv.7 ∙ rest_stop x.covering (at x.v.now) c.loop-m.m (inv.5, omega arith) (sym (told c.before) ∙ not-true _ c.if-not-no_tie.true))
+    whole x.covering (at x.v.now) inv.4 (sym inv.7 ∙ rest_stop x.covering (at x.v.now) c.loop-m.m (inv.5, omega arith) (sym (told c.before) ∙ c.if-not-no_tie.true))
 
 pub loop-m-preserved : goal.loop-m-preserved
 loop-m-preserved c =
@@ -56,7 +56,7 @@ loop-m-preserved c =
       inv.4,
       omega arith,
       omega arith,
-      sym (rest_next x.covering (at x.v.now) c.loop-m.m (inv.5, omega arith) (sym (told c.before) ∙ not-false _ c.if-not-no_tie.false)) ∙ inv.7,
+      sym (rest_next x.covering (at x.v.now) c.loop-m.m (inv.5, omega arith) (sym (told c.before) ∙ c.if-not-no_tie.false)) ∙ inv.7,
     )
 
 pub returns : goal.returns

@@ -30,7 +30,7 @@ pub returns-in_default : goal.returns-in_default
 returns-in_default c =
     let a = c.args in
     let l = c.loop-x in
-    sym (row_stop a.height a.width a.y l.x l.samples a.s.now l.p c.loop-x-test.true c.end_of_lem.result c.end_of_lem.ensures (sym c.read_size.ensures ∙ c.in_default.is))
+    sym (row_stop a.height a.width a.y l.x l.samples a.s.now l.p c.loop-x-test.true c.end_of-end.result c.end_of-end.ensures (sym c.read_size.ensures ∙ c.in_default.is))
     ∙ l.invariant.2
 
 pub overflow_mul-k : goal.overflow_mul-k
@@ -52,7 +52,7 @@ loop-x-preserved c =
     let t = c.loop-x-test.true in (
       omega (arith, t),
       length-set l.samples (l.x * a.height + a.y) c.hold.result ∙ l.invariant.1,
-      row_again a.height a.width a.y l.x l.samples a.s.now l.p t c.end_of_lem.result c.in-Of.v c.in-Of.next c.hold.result c.end_of_lem.ensures (sym c.read_size.ensures ∙ c.in-Of.is) c.hold.ensures
+      row_again a.height a.width a.y l.x l.samples a.s.now l.p t c.end_of-end.result c.in-Of.v c.in-Of.next c.hold.result c.end_of-end.ensures (sym c.read_size.ensures ∙ c.in-Of.is) c.hold.ensures
           ∙ l.invariant.2,
     )
 

@@ -21,13 +21,13 @@ same_words-requires c = omega arith
 pub returns-then-not-same_words : goal.returns-then-not-same_words
 returns-then-not-same_words c =
     let a = c.args in
-    let f = not-true c.same_words.result c.if-not-same_words.true in
+    let f = c.if-not-same_words.true in
     ap (skip_of (length a.s.now)) (sym (skip_words a.names.now a.s.now a.at false (omega arith) (sym f ∙ c.same_words.ensures)))
 
 pub loop-i-init : goal.loop-i-init
 loop-i-init c =
     let a = c.args in
-    let f = not-false c.same_words.result c.if-not-same_words.false in
+    let f = c.if-not-same_words.false in
     (omega arith, omega arith, sym (skip_words a.names.now a.s.now a.at true (omega arith) (sym f ∙ c.same_words.ensures)))
 
 pub returns-then-s-p : goal.returns-then-s-p
