@@ -29,13 +29,16 @@ pub mix_run-requires : goal.mix_run-requires
 mix_run-requires c =
     let small : c.args.width * c.args.height ≤ 262144 = mul-le-mul c.requires.0.2 c.requires.0.1 in
     let rows : (let a = c.args in c.low_rows-low.result ≡ cond (ltb a.col (halved a.levels a.width)) (halved a.levels a.height) 0) = c.low_rows-low.ensures ∙ λ i. cond (ltb c.args.col (c.requires.0.4 i)) (c.requires.0.3 i) 0 in
-    record { count_in_bounds = (
+    record {
+      count_in_bounds = (
         omega (arith, c.requires.1.0.2, rows_inside c.args.levels c.args.height c.args.width c.args.step c.args.plane.now c.args.decomposed.now c.args.col c.requires.0.0 c.low_rows-low.result rows),
         omega (arith, c.requires.1.0.2, small),
         c.requires.1.0.0 ∙ sym c.requires.1.0.2,
         c.requires.1.0.1 ∙ sym c.requires.1.0.2,
         c.requires.0.5,
-      ); by_index = ((λ k l. c.requires.1.1.0 k (omega (arith, c.requires.1.0.2))), (λ k l. c.requires.1.1.1 k (omega (arith, c.requires.1.0.2)))) }
+      );
+      by_index = ((λ k l. c.requires.1.1.0 k (omega (arith, c.requires.1.0.2))), (λ k l. c.requires.1.1.1 k (omega (arith, c.requires.1.0.2))));
+    }
 
 pub overflow_add-first : goal.overflow_add-first
 overflow_add-first c =
@@ -52,13 +55,16 @@ pub mix_run-requires-2 : goal.mix_run-requires-2
 mix_run-requires-2 c =
     let small : c.args.width * c.args.height ≤ 262144 = mul-le-mul c.requires.0.2 c.requires.0.1 in
     let rows : (let a = c.args in c.low_rows-low.result ≡ cond (ltb a.col (halved a.levels a.width)) (halved a.levels a.height) 0) = c.low_rows-low.ensures ∙ λ i. cond (ltb c.args.col (c.requires.0.4 i)) (c.requires.0.3 i) 0 in
-    let e = c.mix_run.auto.1.1.1.1.1.1.0 ∙ c.requires.1.0.2 in record { count_in_bounds = (
+    let e = c.mix_run.auto.1.1.1.1.1.1.0 ∙ c.requires.1.0.2 in record {
+      count_in_bounds = (
         omega (arith, e, rest-inside c.args.levels c.args.height c.args.width c.args.step c.args.plane.now c.args.decomposed.now c.args.col c.requires.0.0 c.low_rows-low.result rows),
         omega (arith, e, small),
         c.requires.1.0.0 ∙ sym e,
         c.requires.1.0.1 ∙ sym e,
         c.requires.0.5,
-      ); by_index = ((λ k l. c.requires.1.1.0 k (omega (arith, e))), (λ k l. c.requires.1.1.1 k (omega (arith, e)))) }
+      );
+      by_index = ((λ k l. c.requires.1.1.0 k (omega (arith, e))), (λ k l. c.requires.1.1.1 k (omega (arith, e))));
+    }
 
 pub shape_of-out : goal.shape_of-out
 shape_of-out c = c.mix_run-2.auto.1.1.1.1.1.1.0 ∙ c.mix_run.auto.1.1.1.1.1.1.0

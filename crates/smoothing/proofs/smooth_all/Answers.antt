@@ -26,16 +26,20 @@ decompose_by-requires c =
     let merged : (c.synthesise.new.numerators ≡ numerators_of c.args.levels c.args.height c.args.width c.args.coverings.now c.args.plane.now) = c.synthesise.ensures.numerators_after ∙ ap (numerators_of c.args.levels c.args.height c.args.width c.args.coverings.now) c.copy.ensures in
     let sloped : (c.slopes.new.out ≡ first c.requires.0.0 c.args.step) = c.slopes.ensures ∙ ap (gradient_of c.args.height c.args.width) merged in
     let r = c.requires.0.0 in
-    let e = sloped in record { cells_value = ((
-      (c.cells-cells.ensures, r.fits, r.most, r.height, r.width),
-      ((r.covered, ap length e ∙ slice_length _ _ _, ap length merged ∙ slice_length _ _ _), (r.numbers, rw e (first_modest r c.args.step))),
-    )).0; coverings_len = ((
-      (c.cells-cells.ensures, r.fits, r.most, r.height, r.width),
-      ((r.covered, ap length e ∙ slice_length _ _ _, ap length merged ∙ slice_length _ _ _), (r.numbers, rw e (first_modest r c.args.step))),
-    )).1; numbers = ((
-      (c.cells-cells.ensures, r.fits, r.most, r.height, r.width),
-      ((r.covered, ap length e ∙ slice_length _ _ _, ap length merged ∙ slice_length _ _ _), (r.numbers, rw e (first_modest r c.args.step))),
-    )).2 }
+    let e = sloped in record {
+      cells_value = ((
+        (c.cells-cells.ensures, r.fits, r.most, r.height, r.width),
+        ((r.covered, ap length e ∙ slice_length _ _ _, ap length merged ∙ slice_length _ _ _), (r.numbers, rw e (first_modest r c.args.step))),
+      )).0;
+      coverings_len = ((
+        (c.cells-cells.ensures, r.fits, r.most, r.height, r.width),
+        ((r.covered, ap length e ∙ slice_length _ _ _, ap length merged ∙ slice_length _ _ _), (r.numbers, rw e (first_modest r c.args.step))),
+      )).1;
+      numbers = ((
+        (c.cells-cells.ensures, r.fits, r.most, r.height, r.width),
+        ((r.covered, ap length e ∙ slice_length _ _ _, ap length merged ∙ slice_length _ _ _), (r.numbers, rw e (first_modest r c.args.step))),
+      )).2;
+    }
 
 pub mix-requires : goal.mix-requires
 mix-requires c =
@@ -44,16 +48,20 @@ mix-requires c =
     let decomposed : c.decompose_by.new.image ≡ second c.requires.0.0 c.args.step = c.decompose_by.ensures
     ∙ ap (λ (l : List ℤ). slice_of c.args.height c.args.width (analyse c.args.levels c.args.height c.args.width (listed c.args.coverings.now) (image_of c.args.height l))) sloped in
     let r = c.requires.0.0 in
-    let e = decomposed in record { levels_bound = ((
-      (r.most, r.height, r.width, c.requires.0.2),
-      ((r.plane_long, ap length e ∙ slice_length _ _ _, c.decompose_by.auto.1.1.1.1.1.1.0 ∙ ap length merged ∙ slice_length _ _ _), (plane_small r c.args.step, rw e (second_small r c.args.step))),
-    )).0; plane_len = ((
-      (r.most, r.height, r.width, c.requires.0.2),
-      ((r.plane_long, ap length e ∙ slice_length _ _ _, c.decompose_by.auto.1.1.1.1.1.1.0 ∙ ap length merged ∙ slice_length _ _ _), (plane_small r c.args.step, rw e (second_small r c.args.step))),
-    )).1; by_index = ((
-      (r.most, r.height, r.width, c.requires.0.2),
-      ((r.plane_long, ap length e ∙ slice_length _ _ _, c.decompose_by.auto.1.1.1.1.1.1.0 ∙ ap length merged ∙ slice_length _ _ _), (plane_small r c.args.step, rw e (second_small r c.args.step))),
-    )).2 }
+    let e = decomposed in record {
+      levels_bound = ((
+        (r.most, r.height, r.width, c.requires.0.2),
+        ((r.plane_long, ap length e ∙ slice_length _ _ _, c.decompose_by.auto.1.1.1.1.1.1.0 ∙ ap length merged ∙ slice_length _ _ _), (plane_small r c.args.step, rw e (second_small r c.args.step))),
+      )).0;
+      plane_len = ((
+        (r.most, r.height, r.width, c.requires.0.2),
+        ((r.plane_long, ap length e ∙ slice_length _ _ _, c.decompose_by.auto.1.1.1.1.1.1.0 ∙ ap length merged ∙ slice_length _ _ _), (plane_small r c.args.step, rw e (second_small r c.args.step))),
+      )).1;
+      by_index = ((
+        (r.most, r.height, r.width, c.requires.0.2),
+        ((r.plane_long, ap length e ∙ slice_length _ _ _, c.decompose_by.auto.1.1.1.1.1.1.0 ∙ ap length merged ∙ slice_length _ _ _), (plane_small r c.args.step, rw e (second_small r c.args.step))),
+      )).2;
+    }
 
 pub synthesise-requires-2 : goal.synthesise-requires-2
 synthesise-requires-2 c =

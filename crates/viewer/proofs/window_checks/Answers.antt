@@ -26,7 +26,7 @@ wide_most i z = omega (arith, i.across, z.wide)
 tall_most : {h w R : ℕ} {v : View} → Inside v h w → Passed h w R → v.tall ≤ 512
 tall_most i z = omega (arith, i.down, z.tall)
 
--- the numbers, behind the checks 1, 2, 17, 3 and 5
+-- the numbers, behind check 5
 sizes : (c : goal.Else-not-all_numbers) → let a = c.args in Passed a.height a.width a.levels
 sizes c =
     let good : let a = c.args in Passed a.height a.width a.levels = size_passed _ _ _ c.in_default.is c.size_checks-sized.ensures in
