@@ -25,8 +25,7 @@ decompose_all-requires c =
     let a = c.args in
     let z = (picture_past a.height a.width a.levels a.samples.now a.plane.now a.coverings.now a.scratch.now accepted).0 in
     let s = sides_are a.height a.width (truth z.sided) in
-
-record { t = (((s.0, s.1, truth z.deep), ((z.long, z.plane_long, z.covered, z.scratch_long), (small_samples a.samples.now z.small z.long, omega arith, good_full _ c.every_covering-list.ensures)))).0; samples_len = (((s.0, s.1, truth z.deep), ((z.long, z.plane_long, z.covered, z.scratch_long), (small_samples a.samples.now z.small z.long, omega arith, good_full _ c.every_covering-list.ensures)))).1; by_index = (((s.0, s.1, truth z.deep), ((z.long, z.plane_long, z.covered, z.scratch_long), (small_samples a.samples.now z.small z.long, omega arith, good_full _ c.every_covering-list.ensures)))).2 }
+    record { t = (s.0, s.1, truth z.deep); samples_len = (z.long, z.plane_long, z.covered, z.scratch_long); by_index = (small_samples a.samples.now z.small z.long, omega arith, good_full _ c.every_covering-list.ensures) }
 
 pub returns : goal.returns
 returns c =

@@ -23,7 +23,7 @@ loop-col-init c = (omega arith, c.requires.1.0.2, columns_none c.args.height (mi
 
 pub mix_column-requires : goal.mix_column-requires
 mix_column-requires c =
-    record { col_lt_width = (((omega arith, c.requires.0.1, c.requires.0.2, halved_shift c.args.levels c.args.height, halved_shift c.args.levels c.args.width, c.requires.0.3), ((c.requires.1.0.0, c.requires.1.0.1, c.loop-col.invariant.1), c.requires.1.1))).0; plane_len = (((omega arith, c.requires.0.1, c.requires.0.2, halved_shift c.args.levels c.args.height, halved_shift c.args.levels c.args.width, c.requires.0.3), ((c.requires.1.0.0, c.requires.1.0.1, c.loop-col.invariant.1), c.requires.1.1))).1; by_index = (((omega arith, c.requires.0.1, c.requires.0.2, halved_shift c.args.levels c.args.height, halved_shift c.args.levels c.args.width, c.requires.0.3), ((c.requires.1.0.0, c.requires.1.0.1, c.loop-col.invariant.1), c.requires.1.1))).2 }
+    record { col_lt_width = (omega arith, c.requires.0.1, c.requires.0.2, halved_shift c.args.levels c.args.height, halved_shift c.args.levels c.args.width, c.requires.0.3); plane_len = (c.requires.1.0.0, c.requires.1.0.1, c.loop-col.invariant.1); by_index = c.requires.1.1 }
 
 pub overflow_add-col : goal.overflow_add-col
 overflow_add-col c = omega (arith, c.requires.0.2)

@@ -13,7 +13,7 @@ use Rattle.smoothing.proofs.smooth_all.Goals as goal
 
 pub synthesise-requires : goal.synthesise-requires
 synthesise-requires c =
-    record { cells_value = ((c.cells-cells.ensures, (rw c.copy.ensures (by_largest c.requires.0.0), c.requires.1.1))).0; mergeable = ((c.cells-cells.ensures, (rw c.copy.ensures (by_largest c.requires.0.0), c.requires.1.1))).1; scratch_len = ((c.cells-cells.ensures, (rw c.copy.ensures (by_largest c.requires.0.0), c.requires.1.1))).2 }
+    record { cells_value = c.cells-cells.ensures; mergeable = rw c.copy.ensures (by_largest c.requires.0.0); scratch_len = c.requires.1.1 }
 
 pub slopes-requires : goal.slopes-requires
 slopes-requires c =
@@ -70,7 +70,7 @@ synthesise-requires-2 c =
     let decomposed : c.decompose_by.new.image ≡ second c.requires.0.0 c.args.step = c.decompose_by.ensures
     ∙ ap (λ (l : List ℤ). slice_of c.args.height c.args.width (analyse c.args.levels c.args.height c.args.width (listed c.args.coverings.now) (image_of c.args.height l))) sloped in
     let mixed : (c.mix.new.out ≡ third c.requires.0.0 c.args.step) = c.mix.ensures ∙ ap (mixed_of c.args.levels c.args.height c.args.width c.args.step c.args.plane.now) decomposed in
-    record { cells_value = ((c.cells-cells.ensures, (rw mixed (by_largest (third_mergeable c.requires.0.0 c.args.step c.requires.0.2)), ap length decomposed ∙ slice_length _ _ _))).0; mergeable = ((c.cells-cells.ensures, (rw mixed (by_largest (third_mergeable c.requires.0.0 c.args.step c.requires.0.2)), ap length decomposed ∙ slice_length _ _ _))).1; scratch_len = ((c.cells-cells.ensures, (rw mixed (by_largest (third_mergeable c.requires.0.0 c.args.step c.requires.0.2)), ap length decomposed ∙ slice_length _ _ _))).2 }
+    record { cells_value = c.cells-cells.ensures; mergeable = rw mixed (by_largest (third_mergeable c.requires.0.0 c.args.step c.requires.0.2)); scratch_len = ap length decomposed ∙ slice_length _ _ _ }
 
 pub shape_of-res : goal.shape_of-res
 shape_of-res c =

@@ -32,14 +32,14 @@ no_tie-requires c = let inv = c.loop-m.invariant in (inv.0, (inv.5, omega arith)
 
 pub returns-then-not-no_tie : goal.returns-then-not-no_tie
 returns-then-not-no_tie c =
-    let told : (let x) = c.args in c.no_tie.result ≡ apart x.covering (at x.v.now) c.loop-m.m = c.no_tie.ensures c.args.v.now c.loop-m.invariant.3 in
+    let told : (let x = c.args in c.no_tie.result ≡ apart x.covering (at x.v.now) c.loop-m.m) = c.no_tie.ensures c.args.v.now c.loop-m.invariant.3 in
     let x = c.args in
     let inv = c.loop-m.invariant in
     whole x.covering (at x.v.now) inv.4 (sym inv.7 ∙ rest_stop x.covering (at x.v.now) c.loop-m.m (inv.5, omega arith) (sym told ∙ c.if-not-no_tie.true))
 
 pub loop-m-preserved : goal.loop-m-preserved
 loop-m-preserved c =
-    let told : (let x) = c.args in c.no_tie.result ≡ apart x.covering (at x.v.now) c.loop-m.m = c.no_tie.ensures c.args.v.now c.loop-m.invariant.3 in
+    let told : (let x = c.args in c.no_tie.result ≡ apart x.covering (at x.v.now) c.loop-m.m) = c.no_tie.ensures c.args.v.now c.loop-m.invariant.3 in
     let x = c.args in
     let inv = c.loop-m.invariant in (
       inv.0,
