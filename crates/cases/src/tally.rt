@@ -136,7 +136,7 @@ fn tell_count(rt: &impl Print, before: &str, count: usize) -> io::Result<()> {
 
 fn tell_end(rt: &impl Print, differing: usize) -> io::Result<()> {
     if differing == 0 {
-        return print!(rt; " ok\n");
+        return println!(rt; " ok");
     }
     tell_count(rt, " differs ", differing)?;
     print!(rt; "\n")
