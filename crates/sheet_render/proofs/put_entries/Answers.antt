@@ -25,34 +25,6 @@ use mir.Syntax.{w64}
 use mir.Val.{to_z, of_z}
 use Rattle.sheet_render.proofs.put_entries.Goals as goal
 
--- what was read is the entry of the plane at the present place
-value : (c : goal.After-v-1) → let s = c.before.before.before.before.before.before.before in let l = c.loop-k in
-    to_z w64 (of_z w64 (get_or c.args.plane.now c.index_of-i.result (pos 0))) ≡ at (image_of c.args.height c.args.plane.now) (entry_of l.k)
-value c = kept c.v-1.given ∙ ap (λ (j : ℕ). get_or c.args.plane.now j (pos 0)) c.index_of-i.ensures.0
-
-first_of : (c : goal.After-v-1) → let k = c.loop-k.k in (t : List Place) × (entries_left k ≡ entry_of k ∷ t)
-first_of c = let l = c.loop-k in present entry_at l.k c.loop-k-test.true l.invariant.0.row l.invariant.0.col
-
-small : (c : goal.After-v-1) → let s = c.before.before.before.before.before.before.before in nat_abs (to_z w64 (of_z w64 (get_or c.args.plane.now c.index_of-i.result (pos 0)))) ≤ limit
-small c =
-    let l = c.loop-k in
-    let q = passed c.args.height c.args.width c.args.levels c.requires.0.0 c.requires.0.1 in
-    let P = image_of c.args.height c.args.plane.now in
-    let t = first_of c in
-    let r = range_small c.args.levels (entry_of l.k) (at P (entry_of l.k)) (omega (arith, q.few)) (omega (arith, l.invariant.0.levels, c.loop-k-test.true)) (fit_first c.args.levels P l.k t.0 t.1 l.invariant.1) in
-    omega (arith, ap nat_abs (value c))
-
--- the line has room
-room : (c : goal.After-v-1) → let s = c.before.before.before.before.before.before.before in let l = c.loop-k in
-    l.p + length (line_of l.k (to_z w64 (of_z w64 (get_or c.args.plane.now c.index_of-i.result (pos 0))))) ≤ length l.out
-room c =
-    let l = c.loop-k in
-    let P = image_of c.args.height c.args.plane.now in
-    let t = first_of c in
-    let v = to_z w64 (of_z w64 (get_or c.args.plane.now c.index_of-i.result (pos 0))) in
-    let x = ap length (entries_next P l.k t.0 v t.1 (value c)) ∙ length-append (line_of l.k v) (rows_text (entry_rows P t.0)) in
-    omega (arith, x, l.invariant.3, l.invariant.2, c.requires.1.1)
-
 pub first_entry-k-requires : goal.first_entry-k-requires
 first_entry-k-requires c = (c.requires.0.0, c.requires.0.1)
 
@@ -75,7 +47,24 @@ pub bounds-plane-i : goal.bounds-plane-i
 bounds-plane-i c = omega (arith, c.index_of-i.ensures.1, c.requires.1.0.0)
 
 pub put_entry-p-requires : goal.put_entry-p-requires
-put_entry-p-requires c = let l = c.loop-k in ((l.invariant.0, omega (arith, l.invariant.0.levels), small c.before), room c.before)
+put_entry-p-requires c =
+    let value : (let s = c.before.before.before.before.before.before.before in let l) = c.loop-k in
+    to_z w64 (of_z w64 (get_or c.args.plane.now c.index_of-i.result (pos 0))) ≡ at (image_of c.args.height c.args.plane.now) (entry_of l.k) = kept c.v-1.given ∙ ap (λ (j : ℕ). get_or c.args.plane.now j (pos 0)) c.index_of-i.ensures.0 in
+    let first_of : (let k = c.loop-k.k in (t : List Place) × (entries_left k ≡ entry_of k ∷ t)) = let l = c.loop-k in present entry_at l.k c.loop-k-test.true l.invariant.0.row l.invariant.0.col in
+    let small : (let s = c.before.before.before.before.before.before.before in nat_abs (to_z w64 (of_z w64 (get_or c.args.plane.now c.index_of-i.result (pos 0)))) ≤ limit) = let l = c.loop-k in
+    let q = passed c.args.height c.args.width c.args.levels c.requires.0.0 c.requires.0.1 in
+    let P = image_of c.args.height c.args.plane.now in
+    let t = first_of in
+    let r = range_small c.args.levels (entry_of l.k) (at P (entry_of l.k)) (omega (arith, q.few)) (omega (arith, l.invariant.0.levels, c.loop-k-test.true)) (fit_first c.args.levels P l.k t.0 t.1 l.invariant.1) in
+    omega (arith, ap nat_abs value) in
+    let room : (let s = c.before.before.before.before.before.before.before in let l) = c.loop-k in
+    l.p + length (line_of l.k (to_z w64 (of_z w64 (get_or c.args.plane.now c.index_of-i.result (pos 0))))) ≤ length l.out = let l = c.loop-k in
+    let P = image_of c.args.height c.args.plane.now in
+    let t = first_of in
+    let v = to_z w64 (of_z w64 (get_or c.args.plane.now c.index_of-i.result (pos 0))) in
+    let x = ap length (entries_next P l.k t.0 v t.1 value) ∙ length-append (line_of l.k v) (rows_text (entry_rows P t.0)) in
+    omega (arith, x, l.invariant.3, l.invariant.2, c.requires.1.1) in
+    let l = c.loop-k in ((l.invariant.0, omega (arith, l.invariant.0.levels), small), room)
 
 pub step-k-requires : goal.step-k-requires
 step-k-requires c = (c.loop-k-test.true, c.loop-k.invariant.0)
@@ -85,6 +74,16 @@ loop-k-smaller c = let e = ap length c.step-k.ensures.entries in omega arith
 
 pub loop-k-preserved : goal.loop-k-preserved
 loop-k-preserved c =
+    let value : (let s = c.before.before.before.before.before.before.before in let l) = c.loop-k in
+    to_z w64 (of_z w64 (get_or c.args.plane.now c.index_of-i.result (pos 0))) ≡ at (image_of c.args.height c.args.plane.now) (entry_of l.k) = kept c.v-1.given ∙ ap (λ (j : ℕ). get_or c.args.plane.now j (pos 0)) c.index_of-i.ensures.0 in
+    let first_of : (let k = c.loop-k.k in (t : List Place) × (entries_left k ≡ entry_of k ∷ t)) = let l = c.loop-k in present entry_at l.k c.loop-k-test.true l.invariant.0.row l.invariant.0.col in
+    let room : (let s = c.before.before.before.before.before.before.before in let l) = c.loop-k in
+    l.p + length (line_of l.k (to_z w64 (of_z w64 (get_or c.args.plane.now c.index_of-i.result (pos 0))))) ≤ length l.out = let l = c.loop-k in
+    let P = image_of c.args.height c.args.plane.now in
+    let t = first_of in
+    let v = to_z w64 (of_z w64 (get_or c.args.plane.now c.index_of-i.result (pos 0))) in
+    let x = ap length (entries_next P l.k t.0 v t.1 value) ∙ length-append (line_of l.k v) (rows_text (entry_rows P t.0)) in
+    omega (arith, x, l.invariant.3, l.invariant.2, c.requires.1.1) in
     let a = c.before.before.before.before.before in
     let l = c.loop-k in
     let k = l.k in
@@ -92,9 +91,9 @@ loop-k-preserved c =
     let e = c.step-k.ensures.entries in
     let v = to_z w64 (of_z w64 (get_or c.args.plane.now c.index_of-i.result (pos 0))) in
     let r = entries_from P c.step-k.result in
-    let x = entries_next P k (entries_left c.step-k.result) v e (value c.before.before.before.before.before) in
+    let x = entries_next P k (entries_left c.step-k.result) v e value in
     let y = ap length x ∙ length-append (line_of k v) r in
-    let w : Put l.p c.put_entry-p.result (line_of k v) l.out c.put_entry-p.new.out = record { room = room c.before.before.before.before.before; next = c.put_entry-p.ensures.value; bytes = c.put_entry-p.ensures.out_after } in (
+    let w : Put l.p c.put_entry-p.result (line_of k v) l.out c.put_entry-p.new.out = record { room = room; next = c.put_entry-p.ensures.value; bytes = c.put_entry-p.ensures.out_after } in (
       c.step-k.ensures.inside,
       fit_rest c.args.levels P k c.step-k.result e l.invariant.1,
       put_length w ∙ l.invariant.2,
@@ -110,4 +109,8 @@ returns c =
     let l = c.loop-k in
     let P = image_of c.args.height c.args.plane.now in
     let z = entries_end P l.k (ended entry_at l.k (omega (arith, c.loop-k-test.false))) in
-record { value = omega (arith, ap length z, l.invariant.3); out_after = sym (ap (λ x. stamp l.p x l.out) z ∙ stamp_none l.p l.out) ∙ l.invariant.4 }
+
+record { value =
+    let value : (let s = c.before.before.before.before.before.before.before in let l) = c.loop-k in
+    to_z w64 (of_z w64 (get_or c.args.plane.now c.index_of-i.result (pos 0))) ≡ at (image_of c.args.height c.args.plane.now) (entry_of l.k) = kept c.v-1.given ∙ ap (λ (j : ℕ). get_or c.args.plane.now j (pos 0)) c.index_of-i.ensures.0 in
+    omega (arith, ap length z, l.invariant.3); out_after = sym (ap (λ x. stamp l.p x l.out) z ∙ stamp_none l.p l.out) ∙ l.invariant.4 }

@@ -6,17 +6,20 @@ use Rattle.places.proofs.Sides.{Passed, passed}
 use Rattle.sheet_render.proofs.Pieces.{sheet_length}
 use Rattle.sheet_render.proofs.sheet_length.Goals as goal
 
-good : (s : goal.Start) → Passed s.args.height s.args.width s.args.levels
-good s = passed s.args.height s.args.width s.args.levels s.requires.0.0 s.requires.0.1
-
 pub width-a-requires : goal.width-a-requires
-width-a-requires c = omega (arith, (good c.before).tall)
+width-a-requires c =
+    let good : Passed c.args.height c.args.width c.args.levels = passed c.args.height c.args.width c.args.levels c.requires.0.0 c.requires.0.1 in
+    omega (arith, good.tall)
 
 pub width-b-requires : goal.width-b-requires
-width-b-requires c = omega (arith, (good c.before.before).wide)
+width-b-requires c =
+    let good : Passed c.args.height c.args.width c.args.levels = passed c.args.height c.args.width c.args.levels c.requires.0.0 c.requires.0.1 in
+    omega (arith, good.wide)
 
 pub width-c-requires : goal.width-c-requires
-width-c-requires c = omega (arith, (good c.before.before.before).few)
+width-c-requires c =
+    let good : Passed c.args.height c.args.width c.args.levels = passed c.args.height c.args.width c.args.levels c.requires.0.0 c.requires.0.1 in
+    omega (arith, good.few)
 
 pub blocks_length-d-requires : goal.blocks_length-d-requires
 blocks_length-d-requires c = (c.requires.0, c.requires.1.1)

@@ -47,13 +47,6 @@ scratch_length c =
     let a = c.args in
     columns_length a.height (values c) (a.height / 2 ^ (l.left - 1) / 4) (a.width / 2 ^ (l.left - 1) / 4) l.scratch (omega (arith, (level c).inside)) ∙ l.invariant.4
 
--- the first level, behind the loop
-last : (c : goal.After-loop-left) → let l = c.loop-left in let a = c.args in Turn a.levels a.height a.width l.left a.height a.width 0 l.weight 0
-last c = let l = c.loop-left in record { is = omega arith; within = l.invariant.0; tall_is = refl; wide_is = refl; first_is = refl; weight_is = l.invariant.2 }
-
-last_level : (c : goal.After-loop-left) → let l = c.loop-left in let a = c.args in Level a.height a.height a.width l.weight 0 a.coverings.now l.numerators
-last_level c = let l = c.loop-left in turn_level c.requires.1.0 (last c) l.numerators l.invariant.3 l.invariant.5
-
 pub loop-left-init : goal.loop-left-init
 loop-left-init c =
     let a = c.args in
@@ -85,6 +78,7 @@ overflow_sub-first c = takes c
 pub rise-requires : goal.rise-requires
 rise-requires c =
     let i = c.before.before in
+
 record { cells_value = ((c.requires.0, (level c.before.before, omega (arith, c.loop-left.invariant.3, c.loop-left.invariant.4)))).0; level = ((c.requires.0, (level c.before.before, omega (arith, c.loop-left.invariant.3, c.loop-left.invariant.4)))).1; scratch_len = ((c.requires.0, (level c.before.before, omega (arith, c.loop-left.invariant.3, c.loop-left.invariant.4)))).2 }
 
 pub overflow_mul-weight : goal.overflow_mul-weight
@@ -115,20 +109,26 @@ loop-left-preserved c =
 pub rise-requires-2 : goal.rise-requires-2
 rise-requires-2 c =
     let i = c.before.before in
-record { cells_value = ((c.requires.0, (last_level c.before.before, omega (arith, c.loop-left.invariant.3, c.loop-left.invariant.4)))).0; level = ((c.requires.0, (last_level c.before.before, omega (arith, c.loop-left.invariant.3, c.loop-left.invariant.4)))).1; scratch_len = ((c.requires.0, (last_level c.before.before, omega (arith, c.loop-left.invariant.3, c.loop-left.invariant.4)))).2 }
+
+record { cells_value =
+    let last : (let l = c.loop-left in let a) = c.args in Turn a.levels a.height a.width l.left a.height a.width 0 l.weight 0 = let l = c.loop-left in record { is = omega arith; within = l.invariant.0; tall_is = refl; wide_is = refl; first_is = refl; weight_is = l.invariant.2 } in
+    let last_level : (let l = c.loop-left in let a) = c.args in Level a.height a.height a.width l.weight 0 a.coverings.now l.numerators = let l = c.loop-left in turn_level c.requires.1.0 last l.numerators l.invariant.3 l.invariant.5 in
+    ((c.requires.0, (last_level, omega (arith, c.loop-left.invariant.3, c.loop-left.invariant.4)))).0; level = ((c.requires.0, (last_level, omega (arith, c.loop-left.invariant.3, c.loop-left.invariant.4)))).1; scratch_len = ((c.requires.0, (last_level, omega (arith, c.loop-left.invariant.3, c.loop-left.invariant.4)))).2 }
 
 pub clear-requires : goal.clear-requires
 clear-requires c = tt
 
 pub returns : goal.returns
 returns c =
+    let last : (let l = c.loop-left in let a) = c.args in Turn a.levels a.height a.width l.left a.height a.width 0 l.weight 0 = let l = c.loop-left in record { is = omega arith; within = l.invariant.0; tall_is = refl; wide_is = refl; first_is = refl; weight_is = l.invariant.2 } in
+    let last_level : (let l = c.loop-left in let a) = c.args in Level a.height a.height a.width l.weight 0 a.coverings.now l.numerators = let l = c.loop-left in turn_level c.requires.1.0 last l.numerators l.invariant.3 l.invariant.5 in
     let i = m.before.before.before in
     let l = c.loop-left in
     let a = c.args in
     let values : ℕ → ℕ → List ℤ = merged_block a.height a.height a.width l.weight (after 0 (listed a.coverings.now)) l.numerators in
     let columns = put_columns a.height values (a.height / 4) (a.width / 4) l.scratch in
-    let q : a.levels - 0 ≡ a.levels = omega arith in record { numerators_after = reach_all c.requires.1.0 _ (ap length c.rise-2.ensures.numerators_after ∙ length_rectangles columns a.height a.height (last_level c.before.before.before.before.before.before.before.before).inside l.numerators a.width ∙ l.invariant.3)
+    let q : a.levels - 0 ≡ a.levels = omega arith in record { numerators_after = reach_all c.requires.1.0 _ (ap length c.rise-2.ensures.numerators_after ∙ length_rectangles columns a.height a.height last_level.inside l.numerators a.width ∙ l.invariant.3)
           (subst⁻¹ (λ (x : List ℤ). Reached a.height a.width 0 a.levels a.coverings.now (image_of a.height a.numerators.now) (image_of a.height x)) c.rise-2.ensures.numerators_after
           (subst (λ (k : ℕ). Reached a.height a.width 0 k a.coverings.now (image_of a.height a.numerators.now) (image_of a.height (rectangles a.height a.height a.width columns l.numerators))) q
-          (turn_reached c.requires.1.0 (last c.before.before.before.before.before.before.before.before) l.numerators l.invariant.3 l.invariant.5 l.scratch l.invariant.4))); scratch_after = c.clear.ensures
-          ∙ ap (λ (n : ℕ). replicate n (pos 0)) (ap length c.rise-2.ensures.scratch_after ∙ columns_length a.height values (a.height / 4) (a.width / 4) l.scratch (omega (arith, (last_level c.before.before.before.before.before.before.before.before).inside)) ∙ l.invariant.4) }
+          (turn_reached c.requires.1.0 last l.numerators l.invariant.3 l.invariant.5 l.scratch l.invariant.4))); scratch_after = c.clear.ensures
+          ∙ ap (λ (n : ℕ). replicate n (pos 0)) (ap length c.rise-2.ensures.scratch_after ∙ columns_length a.height values (a.height / 4) (a.width / 4) l.scratch (omega (arith, last_level.inside)) ∙ l.invariant.4) }

@@ -15,11 +15,6 @@ strip s = strip_of s.args.height s.args.width s.args.levels s.args.plane.now s.a
 abbrev view : goal.Start → View
 view s = view_of s.args.top s.args.left s.args.tall s.args.wide
 
-good : (c : goal.In_default) → let s = c.before.before.before.before.before.before in Found (strip s) (view s) c.args.samples.now
-good c =
-    let s = c.before.before.before.before.before.before in
-    window_past (strip s) (view s) c.args.samples.now (passed_by c.in_default.is c.window_checks-found.ensures)
-
 pub window_checks-found-requires : goal.window_checks-found-requires
 window_checks-found-requires c = tt
 
@@ -27,11 +22,16 @@ pub returns-in-Refused : goal.returns-in-Refused
 returns-in-Refused c = refuses _ _ _ c.in-Refused.r (refused_by c.in-Refused.r c.in-Refused.is c.window_checks-found.ensures)
 
 pub fill_window-requires : goal.fill_window-requires
-fill_window-requires c = let f = good c.before in record { restorable = mergeable _ f.passes; inside = (f.inside, f.exact) }
+fill_window-requires c =
+    let good : (let s = c.before.before.before.before.before.before in Found (strip s) (view s) c.args.samples.now) = let s = c.before.before.before.before.before.before in
+    window_past (strip s) (view s) c.args.samples.now (passed_by c.in_default.is c.window_checks-found.ensures) in
+    let f = good in record { restorable = mergeable _ f.passes; inside = (f.inside, f.exact) }
 
 pub returns : goal.returns
 returns c =
+    let good : (let s = c.before.before.before.before.before.before in Found (strip s) (view s) c.args.samples.now) = let s = c.before.before.before.before.before.before in
+    window_past (strip s) (view s) c.args.samples.now (passed_by c.in_default.is c.window_checks-found.ensures) in
     let e = c.before.before.before.before in
     let s = e.before.before.before.before.before.before in
     let w = c.fill_window.ensures in
-    record { number = passed_by c.in_default.is c.window_checks-found.ensures; image = window_is (view s) c.args.levels c.args.height c.args.width c.args.coverings.now c.args.plane.now _ (good c.before.before.before.before).inside w.0 w.1 }
+    record { number = passed_by c.in_default.is c.window_checks-found.ensures; image = window_is (view s) c.args.levels c.args.height c.args.width c.args.coverings.now c.args.plane.now _ good.inside w.0 w.1 }

@@ -28,4 +28,4 @@ pub bounds-s-piece : goal.bounds-s-piece
 bounds-s-piece c = omega (arith, is c.before.before)
 
 pub returns : goal.returns
-returns c = ap (λ (p : ℕ). get_or c.args.t4 p 0) (is c.before.before).0
+returns c = ap (λ (p : ℕ). get_or c.args.s p 0) (is c.before.before).0

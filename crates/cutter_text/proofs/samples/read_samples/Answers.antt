@@ -15,13 +15,6 @@ K1 = goal.In-To
 s1 : (k : K1) → let a = k.before.before.before.before.before.before.before.args in SkipRead M a.s.now a.at k.before.p.given.0.0
 s1 k = let a = k.before.before.before.before.before.before.before.args in skip_at_law M a.s.now a.at k.before.p.given.0.0 (sym k.before.before.before.skip-names.ensures ∙ k.before.p.given.1)
 
--- what the rows gave, after their place is known
-s2 : (j : goal.In-To-read_rows) → let k = j.before.before.before.before.before.before.before in let a = j.args in
-    got j.read_rows.new.samples (drop j.in-To-read_rows.end a.s.now) ≡ rows_of a.height 0 a.samples.now (times a.height (plains a.width) (drop j.in-To.p a.s.now))
-s2 j =
-    let a = j.args in
-    ap (λ o. passed o a.s.now j.read_rows.new.samples) (sym j.in-To-read_rows.is) ∙ j.read_rows.ensures
-
 pub skip_names-requires : goal.skip_names-requires
 skip_names-requires c = c.requires.0
 
@@ -45,11 +38,14 @@ shape_of-samples-then-end-s c = c.read_rows.auto.1.1.1.1.0
 
 pub returns-then-end-s : goal.returns-then-end-s
 returns-then-end-s c =
+    let s2 : (let k = c.before.before.before.before.before.before.before in let a) = c.args in
+    got c.read_rows.new.samples (drop c.in-To-read_rows.end a.s.now) ≡ rows_of a.height 0 a.samples.now (times a.height (plains a.width) (drop c.in-To.p a.s.now)) = let a = c.args in
+    ap (λ o. passed o a.s.now c.read_rows.new.samples) (sym c.in-To-read_rows.is) ∙ c.read_rows.ensures in
     let j = c.before in
     let k = j.before.before.before.before.before.before.before in
     let a = c.args in
     let e = c.in-To-read_rows.end in (
-      goes_on a.height a.width (drop a.at a.s.now) (drop c.in-To.p a.s.now) (s1 k).read a.samples.now c.read_rows.new.samples (drop e a.s.now) (s2 c.before)
+      goes_on a.height a.width (drop a.at a.s.now) (drop c.in-To.p a.s.now) (s1 k).read a.samples.now c.read_rows.new.samples (drop e a.s.now) s2
           (omega (arith, length-drop e a.s.now, c.if-end-s.true)),
       refl,
     )
@@ -59,9 +55,12 @@ shape_of-samples c = c.read_rows.auto.1.1.1.1.0
 
 pub returns : goal.returns
 returns c =
+    let s2 : (let k = c.before.before.before.before.before.before.before in let a) = c.args in
+    got c.read_rows.new.samples (drop c.in-To-read_rows.end a.s.now) ≡ rows_of a.height 0 a.samples.now (times a.height (plains a.width) (drop c.in-To.p a.s.now)) = let a = c.args in
+    ap (λ o. passed o a.s.now c.read_rows.new.samples) (sym c.in-To-read_rows.is) ∙ c.read_rows.ensures in
     let j = c.before in
     let k = j.before.before.before.before.before.before.before in
     let a = c.args in
     let e = c.in-To-read_rows.end in
-    stored a.height a.width (drop a.at a.s.now) (drop c.in-To.p a.s.now) (s1 k).read a.samples.now c.read_rows.new.samples (drop e a.s.now) (s2 c.before)
+    stored a.height a.width (drop a.at a.s.now) (drop c.in-To.p a.s.now) (s1 k).read a.samples.now c.read_rows.new.samples (drop e a.s.now) s2
     (omega (arith, length-drop e a.s.now, c.if-end-s.false)) c.requires.3

@@ -25,12 +25,6 @@ minus_text c =
     let e : lt_z v (pos 0) ≡ true = rw (to_z-of_z c.before.before.before.ranges.v) at c.if1.true in
     text_negative v e ∙ ap (λ x. 45 ∷ digits x) (sym (m_is c.before))
 
-plain_text : (c : goal.Else-v-lt0) → value_text c.args.v ≡ digits c.magnitude-m.result
-plain_text c =
-    let v = c.args.v in
-    let e : lt_z v (pos 0) ≡ false = rw (to_z-of_z c.ranges.v) at c.if-v-lt0.false in
-    text_positive v e ∙ ap digits (sym (m_is c.before))
-
 wrote : (c : goal.After-slice_known-then-v-lt0-1) → let a = c.args in Put a.at c.put_number.result (value_text a.v) a.out.now c.put_number.new.out
 wrote c =
     let a = c.args in
@@ -59,13 +53,21 @@ pub returns-then-v-lt0 : goal.returns-then-v-lt0
 returns-then-v-lt0 c = ((wrote c).next, (wrote c).bytes)
 
 pub put_number-requires-2 : goal.put_number-requires-2
-put_number-requires-2 c = (omega (arith, m_is c.before.before), omega (arith, ap length (plain_text c.before)))
+put_number-requires-2 c =
+    let plain_text : value_text c.args.v ≡ digits c.magnitude-m.result = let v = c.args.v in
+    let e : lt_z v (pos 0) ≡ false = rw (to_z-of_z c.ranges.v) at c.if-v-lt0.false in
+    text_positive v e ∙ ap digits (sym (m_is c.before)) in
+    (omega (arith, m_is c.before.before), omega (arith, ap length plain_text))
 
 pub returns : goal.returns
 returns c =
+    let plain_text : value_text c.args.v ≡ digits c.magnitude-m.result = let v = c.args.v in
+    let e : lt_z v (pos 0) ≡ false = rw (to_z-of_z c.ranges.v) at c.if-v-lt0.false in
+    text_positive v e ∙ ap digits (sym (m_is c.before)) in
     let a = c.args in
     let k = c.before.before.before.before in
     let n : Put a.at c.put_number-2.result (digits c.magnitude-m.result) a.out.now c.put_number-2.new.out =
-    record { room = omega (arith, ap length (plain_text c.before.before.before.before)); next = c.put_number-2.ensures.value; bytes = c.put_number-2.ensures.out_after } in
-    let p = subst (λ x. Put a.at c.put_number-2.result x a.out.now c.put_number-2.new.out) (sym (plain_text c.before.before.before.before)) n in
+    record { room = omega (arith, ap length plain_text); next = c.put_number-2.ensures.value; bytes = c.put_number-2.ensures.out_after } in
+    let p = subst (λ x. Put a.at c.put_number-2.result x a.out.now c.put_number-2.new.out) (sym plain_text) n in
+
 record { value = p.next; out_after = p.bytes }
