@@ -4,7 +4,7 @@ use mathlib.Core.Bool.{false}
 use Prim.Native.Nat.{ℕ, zero, suc, ◌+◌, ◌*◌, ◌-◌, ◌/◌, ◌%◌, ◌^◌, ◌<◌, ◌≤◌}
 use native.Mathlib.Nat.{zero-add, pow-succ', pow-le-pow_right, div-div-eq-div-mul, div-one, mul-le-mul, le_refl}
 use native.Mathlib.Omega.{arith}
-use lib.IntN.{ℤ, pos, nat_abs, ◌*ℤ◌}
+use lib.IntN.{pos, nat_abs, ◌*ℤ◌}
 use lib.ListN.{get_or}
 use Rattle.integers.proofs.Bound.{abs_mul}
 use Rattle.integers.proofs.Tabulate.{get_d_tabulate}

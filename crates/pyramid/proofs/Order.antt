@@ -1,16 +1,15 @@
 -- Plane order with band 0: every entry of the plane stands in the list at one place. `number_in R h w y x` is the number of the entry in row y, column x.
 -- Assumes nothing.
-use mathlib.Core.Path.{◌≡◌, refl, sym, ap, ◌∙◌, subst, subst⁻¹}
+use mathlib.Core.Path.{◌≡◌, sym, ap, ◌∙◌, subst⁻¹}
 use mathlib.Core.Bool.{true}
-use mathlib.Core.List.{List, [], ◌∷◌, ◌++◌}
-use Prim.Native.Nat.{ℕ, zero, suc, ◌+◌, ◌*◌, ◌-◌, ◌/◌, ◌%◌, ◌<◌, ◌≤◌}
+use mathlib.Core.List.{List, [], ◌++◌}
+use Prim.Native.Nat.{ℕ, zero, suc, ◌+◌, ◌*◌, ◌-◌, ◌/◌, ◌%◌, ◌<◌}
 use native.Mathlib.Omega.{arith}
 use native.Mathlib.Decide.{dec_lt}
 use lib.ListN.{length, get_or, length-append}
 use Rattle.integers.proofs.Index.{index_bound}
-use Rattle.integers.proofs.Tests.{true_at, false_at}
 use Rattle.pyramid.specs.Plane.{Fits, top, left, layout, with_low}
-use Rattle.pyramid.specs.Places.{Place, place_at, band_places, places_from, plane_places}
+use Rattle.pyramid.specs.Places.{Place, place_at, band_places, places_from}
 use Rattle.pyramid.proofs.Levels.{layout_low, layout_band}
 use Rattle.pyramid.proofs.Pyramid.{top_below, left_below}
 use Rattle.pyramid.proofs.Places.{none, All, size, bands, all_append, all_band, all_bands, length_band, length_bands, band_at, past_band, in_bands, past_bands}

@@ -19,7 +19,7 @@ use Rattle.blockwise.proofs.Merged.{over_length, over_high, over_start, over_end
 use Rattle.blockwise.proofs.results_of.Goals as goal
 
 near : (c : goal.In-loop-k) → let l = c.loop-k in let a = c.args in
-    (l.k % 4 / 2 * a.height ≤ 1 * a.height) × (get_or a.t3 (l.k / 4) 0 + a.height + 1 < length a.plane.now)
+    (l.k % 4 / 2 * a.height ≤ 1 * a.height) × (get_or a.begin (l.k / 4) 0 + a.height + 1 < length a.plane.now)
 near c = let l = c.loop-k in (result_near l.k c.args.height, l.invariant.2 (l.k / 4) (omega arith))
 
 pub loop-k-init : goal.loop-k-init
@@ -52,7 +52,7 @@ count-requires c =
     let a = c.args in
     let k = c.loop-k.k in (
       c.requires.1.0,
-      rw (kept c.count-arg-1.given, counted_high a.weight k (at a.plane.now (band_place a.height a.t3 k)) (omega arith), ← over_high a.weight (band_place a.height a.t3) a.t5 a.plane.now k (omega arith) (omega arith))
+      rw (kept c.count-arg-1.given, counted_high a.weight k (at a.plane.now (band_place a.height a.begin k)) (omega arith), ← over_high a.weight (band_place a.height a.begin) a.low a.plane.now k (omega arith) (omega arith))
           (c.requires.1.1 k (omega arith)),
     )
 
@@ -70,9 +70,9 @@ loop-k-preserved c =
     let inv = c.loop-k.invariant in
     let a = c.args in
     let k = c.loop-k.k in
-    let g = band_place a.height a.t3 in
+    let g = band_place a.height a.begin in
     let z = at a.plane.now (g k) in
-    let bound : nat_abs (pos a.weight *ℤ z) ≤ 2 ^ 40 = subst (λ (z : ℤ). nat_abs z ≤ 2 ^ 40) (over_high a.weight g a.t5 a.plane.now k (omega arith) (omega arith)) (c.requires.1.1 k (omega arith)) in (
+    let bound : nat_abs (pos a.weight *ℤ z) ≤ 2 ^ 40 = subst (λ (z : ℤ). nat_abs z ≤ 2 ^ 40) (over_high a.weight g a.low a.plane.now k (omega arith) (omega arith)) (c.requires.1.1 k (omega arith)) in (
       omega arith,
       omega arith,
       inv.2,
@@ -87,6 +87,6 @@ pub returns : goal.returns
 returns c =
     let inv = c.loop-k.invariant in
     let a = c.args in
-    let g = band_place a.height a.t3 in
-    over_end a.weight g a.t5 a.plane.now _ c.loop-k.k inv.5 inv.3 (omega arith)
-    (over_start a.weight g a.t5 a.plane.now _ c.v-1.given c.v-2-1.given c.v-3-1.given c.v-4-1.given)
+    let g = band_place a.height a.begin in
+    over_end a.weight g a.low a.plane.now _ c.loop-k.k inv.5 inv.3 (omega arith)
+    (over_start a.weight g a.low a.plane.now _ c.v-1.given c.v-2-1.given c.v-3-1.given c.v-4-1.given)

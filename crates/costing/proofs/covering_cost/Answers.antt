@@ -10,16 +10,14 @@ use Rattle.costing.specs.Costs.{placement_of, cost_from}
 use Rattle.costing.proofs.Placements.{placement_below, cost_from_law}
 use Rattle.costing.proofs.covering_cost.Goals as goal
 
-part : (c : goal.Start) (p : ℕ) → p < 4 → get_or c.args.costs.now (placement_of c.args.covering p) 0 ≤ 2 ^ 44
-part c p h = c.requires.2 (placement_of c.args.covering p) (placement_below c.args.covering p c.requires.1 h)
-
 abbrev Sum : ℕ → ℕ → ℕ → ℕ → Type 0
 Sum a b c d = Fits w64 (a + b) × Fits w64 (a + b + c) × Fits w64 (a + b + c + d)
 
 sum : (c : goal.After-piece_cost-d) → Sum c.piece_cost-a.result c.piece_cost-b.result c.piece_cost-c.result c.piece_cost-d.result
 sum c =
+    let part : (p : ℕ) → p < 4 → get_or c.args.costs.now (placement_of c.args.covering p) 0 ≤ 2 ^ 44 = λ p h. c.requires.2 (placement_of c.args.covering p) (placement_below c.args.covering p c.requires.1 h) in
     let s = c.before.before.before.before in
-    omega (arith, part c.before.before.before.before 0 (omega arith), part c.before.before.before.before 1 (omega arith), part c.before.before.before.before 2 (omega arith), part c.before.before.before.before 3 (omega arith), c.piece_cost-a.ensures, c.piece_cost-b.ensures, c.piece_cost-c.ensures, c.piece_cost-d.ensures)
+    omega (arith, part 0 (omega arith), part 1 (omega arith), part 2 (omega arith), part 3 (omega arith), c.piece_cost-a.ensures, c.piece_cost-b.ensures, c.piece_cost-c.ensures, c.piece_cost-d.ensures)
 
 total : (c : goal.After-piece_cost-d) → c.piece_cost-a.result + c.piece_cost-b.result + c.piece_cost-c.result + c.piece_cost-d.result ≡ cost_from c.args.costs.now c.args.covering
 unfolding cost_from

@@ -8,11 +8,12 @@ use Rattle.tables.specs.Tables.{placement_table}
 use Rattle.costing.proofs.Placements.{placed_below}
 use Rattle.costing.proofs.placed_cell.Goals as goal
 
-is : (c : goal.Start) → get_or c.args.placements.now c.args.k 0 ≡ get_or placement_table c.args.k 0
-is c = ap (λ (t : List ℕ). get_or t c.args.k 0) c.requires.0
-
 pub overflow_cast-result : goal.overflow_cast-result
-overflow_cast-result c = omega (arith, is c.before.before, placed_below c.args.k c.requires.1)
+overflow_cast-result c =
+    let is : get_or c.args.placements.now c.args.k 0 ≡ get_or placement_table c.args.k 0 = ap (λ (t : List ℕ). get_or t c.args.k 0) c.requires.0 in
+    omega (arith, is, placed_below c.args.k c.requires.1)
 
 pub returns : goal.returns
-returns c = (is c.before.before, omega (arith, is c.before.before, placed_below c.args.k c.requires.1))
+returns c =
+    let is : get_or c.args.placements.now c.args.k 0 ≡ get_or placement_table c.args.k 0 = ap (λ (t : List ℕ). get_or t c.args.k 0) c.requires.0 in
+    (is, omega (arith, is, placed_below c.args.k c.requires.1))

@@ -8,14 +8,16 @@ use Rattle.costing.specs.Costs.{placement_of}
 use Rattle.costing.proofs.Placements.{placement_below}
 use Rattle.costing.proofs.placement_of.Goals as goal
 
-is : (c : goal.Start) → let x = c.args in (get_or x.fours.now ((x.covering - 1) * 4 + x.piece) 0 ≡ placement_of x.covering x.piece) × (placement_of x.covering x.piece < 89)
-unfolding placement_of
-is c =
-    let x = c.args in
-    (ap (λ (t : List ℕ). get_or t ((x.covering - 1) * 4 + x.piece) 0) c.requires.0, placement_below x.covering x.piece c.requires.1 c.requires.2)
-
 pub overflow_cast-result : goal.overflow_cast-result
-overflow_cast-result c = omega (arith, is c.before.before)
+unfolding placement_of
+overflow_cast-result c =
+    let is : let x = c.args in (get_or x.fours.now ((x.covering - 1) * 4 + x.piece) 0 ≡ placement_of x.covering x.piece) × (placement_of x.covering x.piece < 89) = let x = c.args in
+    (ap (λ (t : List ℕ). get_or t ((x.covering - 1) * 4 + x.piece) 0) c.requires.0, placement_below x.covering x.piece c.requires.1 c.requires.2) in
+    omega (arith, is)
 
 pub returns : goal.returns
-returns c = let p = is c.before.before in (p.0, omega (arith, p))
+unfolding placement_of
+returns c =
+    let is : let x = c.args in (get_or x.fours.now ((x.covering - 1) * 4 + x.piece) 0 ≡ placement_of x.covering x.piece) × (placement_of x.covering x.piece < 89) = let x = c.args in
+    (ap (λ (t : List ℕ). get_or t ((x.covering - 1) * 4 + x.piece) 0) c.requires.0, placement_below x.covering x.piece c.requires.1 c.requires.2) in
+    let p = is in (p.0, omega (arith, p))

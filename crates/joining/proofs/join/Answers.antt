@@ -11,19 +11,20 @@ left s = strip_of s.args.left-height s.args.left-width s.args.left-levels s.args
 abbrev right : goal.Start → Strip
 right s = strip_of s.args.right-height s.args.right-width s.args.right-levels s.args.right-plane.now s.args.right-coverings.now
 
-good : (c : goal.In_default) → let s = c.before.before.before.before.before.before.before.before in Found (left s) (right s) c.args.plane.now c.args.coverings.now
-good c =
-    let s = c.before.before.before.before.before.before.before.before in
-    join_past (left s) (right s) c.args.plane.now c.args.coverings.now (passed_by c.in_default.is c.join_checks-found.ensures)
-
 pub returns-in-Refused : goal.returns-in-Refused
 returns-in-Refused c = refuses _ _ _ _ c.in-Refused.r (refused_by c.in-Refused.r c.in-Refused.is c.join_checks-found.ensures)
 
 pub join_planes-requires : goal.join_planes-requires
-join_planes-requires c = plane-room _ _ _ _ (good c.before)
+join_planes-requires c =
+    let good : (let s = c.before.before.before.before.before.before.before.before in Found (left s) (right s) c.args.plane.now c.args.coverings.now) = let s = c.before.before.before.before.before.before.before.before in
+    join_past (left s) (right s) c.args.plane.now c.args.coverings.now (passed_by c.in_default.is c.join_checks-found.ensures) in
+    plane-room _ _ _ _ good
 
 pub join_coverings-requires : goal.join_coverings-requires
-join_coverings-requires c = cover-room _ _ _ _ (good c.before.before.before.before)
+join_coverings-requires c =
+    let good : (let s = c.before.before.before.before.before.before.before.before in Found (left s) (right s) c.args.plane.now c.args.coverings.now) = let s = c.before.before.before.before.before.before.before.before in
+    join_past (left s) (right s) c.args.plane.now c.args.coverings.now (passed_by c.in_default.is c.join_checks-found.ensures) in
+    cover-room _ _ _ _ good
 
 pub returns : goal.returns
 returns c =

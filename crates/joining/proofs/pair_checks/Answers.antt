@@ -12,9 +12,6 @@ use Rattle.joining.proofs.pair_checks.Goals as goal
 sided : (c : goal.Else-not-sided) → let a = c.args in (is_sides a.left-height a.left-width && is_sides a.right-height a.right-width) ≡ true
 sided c = rw (← c.are_sides.ensures, ← c.are_sides-2.ensures) c.if-not-sided.false
 
-deep : (c : goal.Else-not-deep) → let a = c.args in (is_depth a.left-levels a.left-height a.left-width && is_depth a.right-levels a.right-height a.right-width) ≡ true
-deep c = rw (← c.is_depth.ensures, ← c.is_depth-2.ensures) c.if-not-deep.false
-
 pub are_sides-requires : goal.are_sides-requires
 are_sides-requires c = tt
 
@@ -34,7 +31,9 @@ pub returns-then-not-deep : goal.returns-then-not-deep
 returns-then-not-deep c = λ rest. rw (sided c.before.before.before, ← c.is_depth.ensures, ← c.is_depth-2.ensures, c.if-not-deep.true)
 
 pub returns-then-not-same : goal.returns-then-not-same
-returns-then-not-same c = λ rest. rw (sided c.before.before.before.before, deep c.before, c.if-not-same.true)
+returns-then-not-same c =
+    let deep : (let a = c.args in (is_depth a.left-levels a.left-height a.left-width && is_depth a.right-levels a.right-height a.right-width) ≡ true) = rw (← c.is_depth.ensures, ← c.is_depth-2.ensures) c.if-not-deep.false in
+    λ rest. rw (sided c.before.before.before.before, deep, c.if-not-same.true)
 
 pub widest-requires : goal.widest-requires
 widest-requires c = tt
@@ -44,10 +43,12 @@ overflow_add-left_width c = let s = sides_small _ _ (both_true (is_sides _ _) (i
 
 pub returns-then-widest-left_width : goal.returns-then-widest-left_width
 returns-then-widest-left_width c =
+    let deep : (let a = c.args in (is_depth a.left-levels a.left-height a.left-width && is_depth a.right-levels a.right-height a.right-width) ≡ true) = rw (← c.is_depth.ensures, ← c.is_depth-2.ensures) c.if-not-deep.false in
     let a = c.args in
-    λ rest. rw (sided c.before.before.before.before.before.before, deep c.before.before.before, c.if-not-same.false, true_at 512 (a.left-width + a.left-width) (omega (arith, c.widest.ensures.0)))
+    λ rest. rw (sided c.before.before.before.before.before.before, deep, c.if-not-same.false, true_at 512 (a.left-width + a.left-width) (omega (arith, c.widest.ensures.0)))
 
 pub returns : goal.returns
 returns c =
+    let deep : (let a = c.args in (is_depth a.left-levels a.left-height a.left-width && is_depth a.right-levels a.right-height a.right-width) ≡ true) = rw (← c.is_depth.ensures, ← c.is_depth-2.ensures) c.if-not-deep.false in
     let a = c.args in
-    λ rest. rw (sided c.before.before.before.before.before.before, deep c.before.before.before, c.if-not-same.false, false_at 512 (a.left-width + a.left-width) (omega (arith, c.widest.ensures.0)))
+    λ rest. rw (sided c.before.before.before.before.before.before, deep, c.if-not-same.false, false_at 512 (a.left-width + a.left-width) (omega (arith, c.widest.ensures.0)))

@@ -7,19 +7,19 @@ use Rattle.listing.specs.Entries.{listed_refusal}
 use Rattle.listing.proofs.Together.{refuses_listed, listed_past}
 use Rattle.listing.proofs.decompose_listed.Goals as goal
 
-accepted : (c : goal.In_default) → let a = c.args in 0 ≡ listed_refusal a.height a.width a.levels a.tolerance a.samples.now a.list.now a.plane.now a.coverings.now a.scratch.now
-accepted c = passed_by c.in_default.is c.listed_checks-found.ensures
-
 pub returns-in-Refused : goal.returns-in-Refused
 returns-in-Refused c = refuses_listed _ _ _ _ _ _ _ _ _ c.in-Refused.r (refused_by c.in-Refused.r c.in-Refused.is c.listed_checks-found.ensures)
 
 pub decompose_all-requires : goal.decompose_all-requires
 decompose_all-requires c =
+    let accepted : (let a = c.args in 0 ≡ listed_refusal a.height a.width a.levels a.tolerance a.samples.now a.list.now a.plane.now a.coverings.now a.scratch.now) = passed_by c.in_default.is c.listed_checks-found.ensures in
     let a = c.args in
-    let y = listed_past a.height a.width a.levels a.tolerance a.samples.now a.list.now a.plane.now a.coverings.now a.scratch.now (accepted c.before.before.before) in
+    let y = listed_past a.height a.width a.levels a.tolerance a.samples.now a.list.now a.plane.now a.coverings.now a.scratch.now accepted in
     let z = y.0 in
     let s = sides_are a.height a.width (truth z.sided) in
-record { t = (((s.0, s.1, truth z.deep), ((z.long, z.plane_long, z.covered, z.scratch_long), (small_samples a.samples.now z.small z.long, y.1, y.2)))).0; samples_len = (((s.0, s.1, truth z.deep), ((z.long, z.plane_long, z.covered, z.scratch_long), (small_samples a.samples.now z.small z.long, y.1, y.2)))).1; by_index = (((s.0, s.1, truth z.deep), ((z.long, z.plane_long, z.covered, z.scratch_long), (small_samples a.samples.now z.small z.long, y.1, y.2)))).2 }
+    record { t = (s.0, s.1, truth z.deep); samples_len = (z.long, z.plane_long, z.covered, z.scratch_long); by_index = (small_samples a.samples.now z.small z.long, y.1, y.2) }
 
 pub returns : goal.returns
-returns c = let e = c.decompose_all.ensures in record { number = accepted c.before.before.before.before.before.before.before.before; planes = e.0; covers = e.1; zeros = e.2 }
+returns c =
+    let accepted : (let a = c.args in 0 ≡ listed_refusal a.height a.width a.levels a.tolerance a.samples.now a.list.now a.plane.now a.coverings.now a.scratch.now) = passed_by c.in_default.is c.listed_checks-found.ensures in
+    let e = c.decompose_all.ensures in record { number = accepted; planes = e.0; covers = e.1; zeros = e.2 }

@@ -20,13 +20,6 @@ use Rattle.masters.proofs.column_whole.Goals as goal
 row : (c : goal.In-loop-i) → let a = c.args in c.loop-i.i < halved (a.levels - 1) a.height / 4
 row c = let a = c.args in omega (arith, c.loop-i-test.true, ap (λ (n : ℕ). n / 4) (halved_shift (a.levels - 1) a.height))
 
--- what the call on the block says
-said : (c : goal.After-whole_in) → let i = c.before.before.before in let a = c.args in
-    T c.whole_in.result ↔ AllIn (a.levels - 1) (WholeCell a.levels a.height a.width a.coverings.now a.plane.now) c.loop-i.i a.j
-said c =
-    let a = c.args in
-    told (block_at a.levels a.height a.width a.levels c.loop-i.i a.j) a.coverings.now a.plane.now c.first_node-k.ensures.0 c.whole_in.result c.whole_in.ensures
-
 pub loop-i-init : goal.loop-i-init
 loop-i-init c = (omega arith, λ p l. absurd (omega arith))
 
@@ -48,14 +41,18 @@ pub whole_in-requires : goal.whole_in-requires
 whole_in-requires c =
     let a = c.args in
     let k = c.first_node-k.ensures in
+
 record { cells_value = ((c.requires.0, asked (block_at a.levels a.height a.width a.levels c.loop-i.i a.j) a.coverings.now a.plane.now k.0 a.unit c.requires.1.0 k.1 c.requires.1.1.1 (values_last a.levels a.height a.width a.coverings.now a.plane.now c.loop-i.i a.j c.last-low.ensures))).0; restorable = ((c.requires.0, asked (block_at a.levels a.height a.width a.levels c.loop-i.i a.j) a.coverings.now a.plane.now k.0 a.unit c.requires.1.0 k.1 c.requires.1.1.1 (values_last a.levels a.height a.width a.coverings.now a.plane.now c.loop-i.i a.j c.last-low.ensures))).1; low_value = ((c.requires.0, asked (block_at a.levels a.height a.width a.levels c.loop-i.i a.j) a.coverings.now a.plane.now k.0 a.unit c.requires.1.0 k.1 c.requires.1.1.1 (values_last a.levels a.height a.width a.coverings.now a.plane.now c.loop-i.i a.j c.last-low.ensures))).2 }
 
 pub returns-then-not-whole_in : goal.returns-then-not-whole_in
 returns-then-not-whole_in c =
+    let said : (let i = c.before.before.before in let a) = c.args in
+    T c.whole_in.result ↔ AllIn (a.levels - 1) (WholeCell a.levels a.height a.width a.coverings.now a.plane.now) c.loop-i.i a.j = let a = c.args in
+    told (block_at a.levels a.height a.width a.levels c.loop-i.i a.j) a.coverings.now a.plane.now c.first_node-k.ensures.0 c.whole_in.result c.whole_in.ensures in
     let w = c.before in
     let i = w.before.before.before in
     let a = c.args in
-    ((λ f. absurd f), (λ all. absurd (failed c.whole_in.result c.if-not-whole_in.true ((said c.before).1 (in_column a.levels a.height a.width c.requires.1.0.some c.requires.1.0.fits (WholeCell a.levels a.height a.width a.coverings.now a.plane.now) a.j all c.loop-i.i (row c.before.before.before.before))))))
+    ((λ f. absurd f), (λ all. absurd (failed c.whole_in.result c.if-not-whole_in.true (said.1 (in_column a.levels a.height a.width c.requires.1.0.some c.requires.1.0.fits (WholeCell a.levels a.height a.width a.coverings.now a.plane.now) a.j all c.loop-i.i (row c.before.before.before.before))))))
 
 pub overflow_add-i : goal.overflow_add-i
 overflow_add-i c = let i = c.before.before.before.before in omega (arith, row c.before.before.before.before, halved_le (c.args.levels - 1) c.args.height, c.requires.1.0.height)
@@ -65,8 +62,11 @@ loop-i-smaller c = omega (arith, c.loop-i-test.true)
 
 pub loop-i-preserved : goal.loop-i-preserved
 loop-i-preserved c =
+    let said : (let i = c.before.before.before in let a) = c.args in
+    T c.whole_in.result ↔ AllIn (a.levels - 1) (WholeCell a.levels a.height a.width a.coverings.now a.plane.now) c.loop-i.i a.j = let a = c.args in
+    told (block_at a.levels a.height a.width a.levels c.loop-i.i a.j) a.coverings.now a.plane.now c.first_node-k.ensures.0 c.whole_in.result c.whole_in.ensures in
     let w = c.before in
-    (omega (arith, c.loop-i-test.true), below_more _ _ c.loop-i.invariant.1 ((said c.before).0 (passed c.whole_in.result c.if-not-whole_in.false)))
+    (omega (arith, c.loop-i-test.true), below_more _ _ c.loop-i.invariant.1 (said.0 (passed c.whole_in.result c.if-not-whole_in.false)))
 
 pub returns : goal.returns
 returns c =

@@ -15,15 +15,6 @@ lay k = k.l.given.0.0
 abbrev txt : goal.In-At-2 → List ℕ
 txt k = k.before.before.before.before.before.args.text.now
 
-laid : (k : goal.In-At-2) → LaidOut (txt k) (lay k)
-laid k = subst (λ r. FoundIn (txt k) r) k.in-At.is k.find_parts.ensures.found_in
-
-accepted : (c : goal.In_default-found) → let a = c.args in 0 ≡ laid_refusal (lay c.before.before.before.before.before.before) a.plane.now a.coverings.now
-accepted c = passed_by c.in_default-found.is c.read_checks-found.ensures
-
-fine : (c : goal.In_default-found) → let a = c.args in Readable (txt c.before.before.before.before.before.before) (lay c.before.before.before.before.before.before) a.plane.now a.coverings.now
-fine c = let k = c.before.before.before.before.before.before in let a = c.args in readable (txt k) (lay k) (laid c.before.before.before.before) a.plane.now a.coverings.now (accepted c)
-
 pub find_parts-requires : goal.find_parts-requires
 find_parts-requires c = tt
 
@@ -34,15 +25,24 @@ returns-in_default c =
 
 pub returns-in-Refused : goal.returns-in-Refused
 returns-in-Refused c =
+    let laid : LaidOut (txt c) (lay c) = subst (λ r. FoundIn (txt c) r) c.in-At.is c.find_parts.ensures.found_in in
     let k = c.before.before.before.before.before.before.before in
     let a = c.args in
-    unread (txt k) a.plane.now a.coverings.now c.in-Refused.r (refused_by c.in-Refused.r c.in-Refused.is c.read_checks-found.ensures ∙ sym (judged (txt k) (lay k) (laid c.before.before.before.before.before) a.plane.now a.coverings.now))
+    unread (txt k) a.plane.now a.coverings.now c.in-Refused.r (refused_by c.in-Refused.r c.in-Refused.is c.read_checks-found.ensures ∙ sym (judged (txt k) (lay k) laid a.plane.now a.coverings.now))
 
 pub store_covers-requires : goal.store_covers-requires
-store_covers-requires c = let k = c.before.before.before.before.before.before.before in let a = c.args in record { at_len = counted (txt k) (lay k) (laid c.before.before.before.before.before) a.plane.now a.coverings.now (accepted c.before); at_value = (fine c.before).numbers }
+store_covers-requires c =
+    let laid : LaidOut (txt c) (lay c) = subst (λ r. FoundIn (txt c) r) c.in-At.is c.find_parts.ensures.found_in in
+    let accepted : (let a = c.args in 0 ≡ laid_refusal (lay c.before.before.before.before.before.before) a.plane.now a.coverings.now) = passed_by c.in_default-found.is c.read_checks-found.ensures in
+    let fine : (let a = c.args in Readable (txt c.before.before.before.before.before.before) (lay c.before.before.before.before.before.before) a.plane.now a.coverings.now) = let k = c.before.before.before.before.before.before in let a = c.args in readable (txt k) (lay k) laid a.plane.now a.coverings.now accepted in
+    let k = c.before.before.before.before.before.before.before in let a = c.args in record { at_len = counted (txt k) (lay k) laid a.plane.now a.coverings.now accepted; at_value = fine.numbers }
 
 pub store_values-requires : goal.store_values-requires
-store_values-requires c = let f = fine c.before.before.before.before.before in record { width_value = (f.sided, f.deep); plane_len = f.plane_long }
+store_values-requires c =
+    let laid : LaidOut (txt c) (lay c) = subst (λ r. FoundIn (txt c) r) c.in-At.is c.find_parts.ensures.found_in in
+    let accepted : (let a = c.args in 0 ≡ laid_refusal (lay c.before.before.before.before.before.before) a.plane.now a.coverings.now) = passed_by c.in_default-found.is c.read_checks-found.ensures in
+    let fine : (let a = c.args in Readable (txt c.before.before.before.before.before.before) (lay c.before.before.before.before.before.before) a.plane.now a.coverings.now) = let k = c.before.before.before.before.before.before in let a = c.args in readable (txt k) (lay k) laid a.plane.now a.coverings.now accepted in
+    let f = fine in record { width_value = (f.sided, f.deep); plane_len = f.plane_long }
 
 pub shape_of-plane : goal.shape_of-plane
 shape_of-plane c = c.store_values.auto.0
@@ -52,6 +52,8 @@ shape_of-coverings c = c.store_Covers.auto.0
 
 pub returns : goal.returns
 returns c =
+    let laid : LaidOut (txt c) (lay c) = subst (λ r. FoundIn (txt c) r) c.in-At.is c.find_parts.ensures.found_in in
+    let accepted : (let a = c.args in 0 ≡ laid_refusal (lay c.before.before.before.before.before.before) a.plane.now a.coverings.now) = passed_by c.in_default-found.is c.read_checks-found.ensures in
     let k = c.before.before.before.before.before.before.before.before.before.before.before.before.before in
     let a = c.args in
-    was_read (txt k) (lay k) (laid c.before.before.before.before.before.before.before.before.before.before.before) a.plane.now a.coverings.now (accepted c.before.before.before.before.before.before.before) c.store_values.new.plane c.store_Covers.new.0 c.store_values.ensures c.store_Covers.ensures
+    was_read (txt k) (lay k) laid a.plane.now a.coverings.now accepted c.store_values.new.plane c.store_Covers.new.0 c.store_values.ensures c.store_Covers.ensures

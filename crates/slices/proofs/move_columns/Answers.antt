@@ -27,3 +27,7 @@ pub returns : goal.returns
 returns c =
     let e : c.loop-c.c ≡ c.args.wide = omega arith in
     rw e at c.loop-c.invariant.2
+
+pub loop-c-init : goal.loop-c-init
+unfolding columns
+loop-c-init c = search rules

@@ -15,3 +15,7 @@ pub returns : goal.returns
 returns c =
     let e : c.loop-r.r ≡ c.args.n = omega arith in
     rw (← e) c.loop-r.invariant.2
+
+pub loop-r-init : goal.loop-r-init
+unfolding pasted
+loop-r-init c = search rules

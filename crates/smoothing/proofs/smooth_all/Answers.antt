@@ -11,63 +11,66 @@ use Rattle.smoothing.specs.Mixed.{gradient_of, mixed_of}
 use Rattle.smoothing.proofs.Steps.{first, first_modest, second, second_small, plane_small, third, third_mergeable, last_is}
 use Rattle.smoothing.proofs.smooth_all.Goals as goal
 
--- ---- what each call leaves
-merged : (c : goal.After-synthesise) → let s = c.before.before.before.before.before.before.before.before.before in c.synthesise.new.numerators ≡ numerators_of c.args.levels c.args.height c.args.width c.args.coverings.now c.args.plane.now
-merged c =
-    c.synthesise.ensures.numerators_after ∙ ap (numerators_of c.args.levels c.args.height c.args.width c.args.coverings.now) c.copy.ensures
-
-sloped : (c : goal.After-slopes) → let s = c.before.before.before.before.before.before.before.before.before.before.before.before.before.before in c.slopes.new.out ≡ first c.requires.0.0 c.args.step
-sloped c = c.slopes.ensures ∙ ap (gradient_of c.args.height c.args.width) (merged c.before.before.before.before)
-
-decomposed : (c : goal.After-decompose_by) → let s = c.before.before.before.before.before.before.before.before.before.before.before.before.before.before.before.before.before.before.before in c.decompose_by.new.image ≡ second c.requires.0.0 c.args.step
-decomposed c =
-    c.decompose_by.ensures
-    ∙ ap (λ (l : List ℤ). slice_of c.args.height c.args.width (analyse c.args.levels c.args.height c.args.width (listed c.args.coverings.now) (image_of c.args.height l))) (sloped c.before.before.before.before.before)
-
-mixed : (c : goal.After-mix) → let s = c.before.before.before.before.before.before.before.before.before.before.before.before.before.before.before.before.before.before.before.before.before.before.before.before in c.mix.new.out ≡ third c.requires.0.0 c.args.step
-mixed c =
-    c.mix.ensures ∙ ap (mixed_of c.args.levels c.args.height c.args.width c.args.step c.args.plane.now) (decomposed c.before.before.before.before)
-
 pub synthesise-requires : goal.synthesise-requires
 synthesise-requires c =
-    record { cells_value = ((c.cells-cells.ensures, (rw c.copy.ensures (by_largest c.requires.0.0), c.requires.1.1))).0; mergeable = ((c.cells-cells.ensures, (rw c.copy.ensures (by_largest c.requires.0.0), c.requires.1.1))).1; scratch_len = ((c.cells-cells.ensures, (rw c.copy.ensures (by_largest c.requires.0.0), c.requires.1.1))).2 }
+    record { cells_value = c.cells-cells.ensures; mergeable = rw c.copy.ensures (by_largest c.requires.0.0); scratch_len = c.requires.1.1 }
 
 pub slopes-requires : goal.slopes-requires
 slopes-requires c =
+    let merged : (c.synthesise.new.numerators ≡ numerators_of c.args.levels c.args.height c.args.width c.args.coverings.now c.args.plane.now) = c.synthesise.ensures.numerators_after ∙ ap (numerators_of c.args.levels c.args.height c.args.width c.args.coverings.now) c.copy.ensures in
     let r = c.requires.0.0 in
-    (r.height, c.requires.0.1, r.width, ap length (merged c.before.before.before) ∙ slice_length _ _ _, c.synthesise.auto.1.1.1.1.1.1.0 ∙ c.requires.1.1)
+    (r.height, c.requires.0.1, r.width, ap length merged ∙ slice_length _ _ _, c.synthesise.auto.1.1.1.1.1.1.0 ∙ c.requires.1.1)
 
 pub decompose_by-requires : goal.decompose_by-requires
 decompose_by-requires c =
+    let merged : (c.synthesise.new.numerators ≡ numerators_of c.args.levels c.args.height c.args.width c.args.coverings.now c.args.plane.now) = c.synthesise.ensures.numerators_after ∙ ap (numerators_of c.args.levels c.args.height c.args.width c.args.coverings.now) c.copy.ensures in
+    let sloped : (c.slopes.new.out ≡ first c.requires.0.0 c.args.step) = c.slopes.ensures ∙ ap (gradient_of c.args.height c.args.width) merged in
     let r = c.requires.0.0 in
-    let e = sloped c.before.before.before.before in record { cells_value = ((
-      (c.cells-cells.ensures, r.fits, r.most, r.height, r.width),
-      ((r.covered, ap length e ∙ slice_length _ _ _, ap length (merged c.before.before.before.before.before.before.before.before) ∙ slice_length _ _ _), (r.numbers, rw e (first_modest r c.args.step))),
-    )).0; coverings_len = ((
-      (c.cells-cells.ensures, r.fits, r.most, r.height, r.width),
-      ((r.covered, ap length e ∙ slice_length _ _ _, ap length (merged c.before.before.before.before.before.before.before.before) ∙ slice_length _ _ _), (r.numbers, rw e (first_modest r c.args.step))),
-    )).1; numbers = ((
-      (c.cells-cells.ensures, r.fits, r.most, r.height, r.width),
-      ((r.covered, ap length e ∙ slice_length _ _ _, ap length (merged c.before.before.before.before.before.before.before.before) ∙ slice_length _ _ _), (r.numbers, rw e (first_modest r c.args.step))),
-    )).2 }
+    let e = sloped in record {
+      cells_value = ((
+        (c.cells-cells.ensures, r.fits, r.most, r.height, r.width),
+        ((r.covered, ap length e ∙ slice_length _ _ _, ap length merged ∙ slice_length _ _ _), (r.numbers, rw e (first_modest r c.args.step))),
+      )).0;
+      coverings_len = ((
+        (c.cells-cells.ensures, r.fits, r.most, r.height, r.width),
+        ((r.covered, ap length e ∙ slice_length _ _ _, ap length merged ∙ slice_length _ _ _), (r.numbers, rw e (first_modest r c.args.step))),
+      )).1;
+      numbers = ((
+        (c.cells-cells.ensures, r.fits, r.most, r.height, r.width),
+        ((r.covered, ap length e ∙ slice_length _ _ _, ap length merged ∙ slice_length _ _ _), (r.numbers, rw e (first_modest r c.args.step))),
+      )).2;
+    }
 
 pub mix-requires : goal.mix-requires
 mix-requires c =
+    let merged : (c.synthesise.new.numerators ≡ numerators_of c.args.levels c.args.height c.args.width c.args.coverings.now c.args.plane.now) = c.synthesise.ensures.numerators_after ∙ ap (numerators_of c.args.levels c.args.height c.args.width c.args.coverings.now) c.copy.ensures in
+    let sloped : (c.slopes.new.out ≡ first c.requires.0.0 c.args.step) = c.slopes.ensures ∙ ap (gradient_of c.args.height c.args.width) merged in
+    let decomposed : c.decompose_by.new.image ≡ second c.requires.0.0 c.args.step = c.decompose_by.ensures
+    ∙ ap (λ (l : List ℤ). slice_of c.args.height c.args.width (analyse c.args.levels c.args.height c.args.width (listed c.args.coverings.now) (image_of c.args.height l))) sloped in
     let r = c.requires.0.0 in
-    let e = decomposed c.before.before.before in record { levels_bound = ((
-      (r.most, r.height, r.width, c.requires.0.2),
-      ((r.plane_long, ap length e ∙ slice_length _ _ _, c.decompose_by.auto.1.1.1.1.1.1.0 ∙ ap length (merged c.before.before.before.before.before.before.before.before.before.before.before.before) ∙ slice_length _ _ _), (plane_small r c.args.step, rw e (second_small r c.args.step))),
-    )).0; plane_len = ((
-      (r.most, r.height, r.width, c.requires.0.2),
-      ((r.plane_long, ap length e ∙ slice_length _ _ _, c.decompose_by.auto.1.1.1.1.1.1.0 ∙ ap length (merged c.before.before.before.before.before.before.before.before.before.before.before.before) ∙ slice_length _ _ _), (plane_small r c.args.step, rw e (second_small r c.args.step))),
-    )).1; by_index = ((
-      (r.most, r.height, r.width, c.requires.0.2),
-      ((r.plane_long, ap length e ∙ slice_length _ _ _, c.decompose_by.auto.1.1.1.1.1.1.0 ∙ ap length (merged c.before.before.before.before.before.before.before.before.before.before.before.before) ∙ slice_length _ _ _), (plane_small r c.args.step, rw e (second_small r c.args.step))),
-    )).2 }
+    let e = decomposed in record {
+      levels_bound = ((
+        (r.most, r.height, r.width, c.requires.0.2),
+        ((r.plane_long, ap length e ∙ slice_length _ _ _, c.decompose_by.auto.1.1.1.1.1.1.0 ∙ ap length merged ∙ slice_length _ _ _), (plane_small r c.args.step, rw e (second_small r c.args.step))),
+      )).0;
+      plane_len = ((
+        (r.most, r.height, r.width, c.requires.0.2),
+        ((r.plane_long, ap length e ∙ slice_length _ _ _, c.decompose_by.auto.1.1.1.1.1.1.0 ∙ ap length merged ∙ slice_length _ _ _), (plane_small r c.args.step, rw e (second_small r c.args.step))),
+      )).1;
+      by_index = ((
+        (r.most, r.height, r.width, c.requires.0.2),
+        ((r.plane_long, ap length e ∙ slice_length _ _ _, c.decompose_by.auto.1.1.1.1.1.1.0 ∙ ap length merged ∙ slice_length _ _ _), (plane_small r c.args.step, rw e (second_small r c.args.step))),
+      )).2;
+    }
 
 pub synthesise-requires-2 : goal.synthesise-requires-2
 synthesise-requires-2 c =
-    record { cells_value = ((c.cells-cells.ensures, (rw (mixed c.before.before.before.before) (by_largest (third_mergeable c.requires.0.0 c.args.step c.requires.0.2)), ap length (decomposed c.before.before.before.before.before.before.before.before) ∙ slice_length _ _ _))).0; mergeable = ((c.cells-cells.ensures, (rw (mixed c.before.before.before.before) (by_largest (third_mergeable c.requires.0.0 c.args.step c.requires.0.2)), ap length (decomposed c.before.before.before.before.before.before.before.before) ∙ slice_length _ _ _))).1; scratch_len = ((c.cells-cells.ensures, (rw (mixed c.before.before.before.before) (by_largest (third_mergeable c.requires.0.0 c.args.step c.requires.0.2)), ap length (decomposed c.before.before.before.before.before.before.before.before) ∙ slice_length _ _ _))).2 }
+    let merged : (c.synthesise.new.numerators ≡ numerators_of c.args.levels c.args.height c.args.width c.args.coverings.now c.args.plane.now) = c.synthesise.ensures.numerators_after ∙ ap (numerators_of c.args.levels c.args.height c.args.width c.args.coverings.now) c.copy.ensures in
+    let sloped : (c.slopes.new.out ≡ first c.requires.0.0 c.args.step) = c.slopes.ensures ∙ ap (gradient_of c.args.height c.args.width) merged in
+    let decomposed : c.decompose_by.new.image ≡ second c.requires.0.0 c.args.step = c.decompose_by.ensures
+    ∙ ap (λ (l : List ℤ). slice_of c.args.height c.args.width (analyse c.args.levels c.args.height c.args.width (listed c.args.coverings.now) (image_of c.args.height l))) sloped in
+    let mixed : (c.mix.new.out ≡ third c.requires.0.0 c.args.step) = c.mix.ensures ∙ ap (mixed_of c.args.levels c.args.height c.args.width c.args.step c.args.plane.now) decomposed in
+    record { cells_value = c.cells-cells.ensures; mergeable = rw mixed (by_largest (third_mergeable c.requires.0.0 c.args.step c.requires.0.2)); scratch_len = ap length decomposed ∙ slice_length _ _ _ }
 
 pub shape_of-res : goal.shape_of-res
 shape_of-res c =
@@ -79,4 +82,9 @@ shape_of-res c =
 
 pub returns : goal.returns
 returns c =
-    record { res_after = c.synthesise-2.ensures.numerators_after ∙ ap (numerators_of c.args.levels c.args.height c.args.width c.args.coverings.now) (mixed c.before.before.before.before.before.before.before) ∙ last_is c.requires.0.0 c.args.step; scratch_after = c.synthesise-2.ensures.scratch_after }
+    let merged : (c.synthesise.new.numerators ≡ numerators_of c.args.levels c.args.height c.args.width c.args.coverings.now c.args.plane.now) = c.synthesise.ensures.numerators_after ∙ ap (numerators_of c.args.levels c.args.height c.args.width c.args.coverings.now) c.copy.ensures in
+    let sloped : (c.slopes.new.out ≡ first c.requires.0.0 c.args.step) = c.slopes.ensures ∙ ap (gradient_of c.args.height c.args.width) merged in
+    let decomposed : c.decompose_by.new.image ≡ second c.requires.0.0 c.args.step = c.decompose_by.ensures
+    ∙ ap (λ (l : List ℤ). slice_of c.args.height c.args.width (analyse c.args.levels c.args.height c.args.width (listed c.args.coverings.now) (image_of c.args.height l))) sloped in
+    let mixed : (c.mix.new.out ≡ third c.requires.0.0 c.args.step) = c.mix.ensures ∙ ap (mixed_of c.args.levels c.args.height c.args.width c.args.step c.args.plane.now) decomposed in
+    record { res_after = c.synthesise-2.ensures.numerators_after ∙ ap (numerators_of c.args.levels c.args.height c.args.width c.args.coverings.now) mixed ∙ last_is c.requires.0.0 c.args.step; scratch_after = c.synthesise-2.ensures.scratch_after }

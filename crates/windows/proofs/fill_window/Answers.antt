@@ -14,14 +14,6 @@ use Rattle.windows.proofs.fill_window.Goals as goal
 abbrev start : goal.At-loop-j → goal.Start
 start c = c.before.before.before.before.before.before.before.before
 
--- the block column is one of the last level
-col : (c : goal.In-loop-j) → let a = (start c.before).args in c.loop-j.j < halved (a.levels - 1) a.width / 4
-col c =
-    let s = start c.before in
-    let a = s.args in
-    let p = s.pre.0 in
-    omega (arith, c.loop-j-test.true, c.block_of-last.ensures, cell_below (a.levels - 1) a.width (a.v.left + a.v.wide - 1) (across (a.levels - 1) a.levels a.height a.width (omega (arith, p.some)) p.fits) (omega (arith, s.pre.1.0.across, s.pre.1.0.some_columns)))
-
 pub cells-cells-requires : goal.cells-cells-requires
 cells-cells-requires c = tt
 
@@ -53,13 +45,23 @@ pub fill_column-requires : goal.fill_column-requires
 fill_column-requires c =
     let i = c.before.before in
     let s = start i.before in
-record { cells_value = ((c.cells-cells.ensures, ((s.pre.0, s.pre.1.0, c.loop-j.invariant.0.long ∙ s.pre.1.1), (col c.before.before, c.power-unit.ensures)))).0; restorable = ((c.cells-cells.ensures, ((s.pre.0, s.pre.1.0, c.loop-j.invariant.0.long ∙ s.pre.1.1), (col c.before.before, c.power-unit.ensures)))).1; j_bound = ((c.cells-cells.ensures, ((s.pre.0, s.pre.1.0, c.loop-j.invariant.0.long ∙ s.pre.1.1), (col c.before.before, c.power-unit.ensures)))).2 }
+
+record { cells_value =
+    let col : (let a = (start c.before).args in c.loop-j.j < halved (a.levels - 1) a.width / 4) = let s = start c.before in
+    let a = s.args in
+    let p = s.pre.0 in
+    omega (arith, c.loop-j-test.true, c.block_of-last.ensures, cell_below (a.levels - 1) a.width (a.v.left + a.v.wide - 1) (across (a.levels - 1) a.levels a.height a.width (omega (arith, p.some)) p.fits) (omega (arith, s.pre.1.0.across, s.pre.1.0.some_columns))) in
+    ((c.cells-cells.ensures, ((s.pre.0, s.pre.1.0, c.loop-j.invariant.0.long ∙ s.pre.1.1), (col, c.power-unit.ensures)))).0; restorable = ((c.cells-cells.ensures, ((s.pre.0, s.pre.1.0, c.loop-j.invariant.0.long ∙ s.pre.1.1), (col, c.power-unit.ensures)))).1; j_bound = ((c.cells-cells.ensures, ((s.pre.0, s.pre.1.0, c.loop-j.invariant.0.long ∙ s.pre.1.1), (col, c.power-unit.ensures)))).2 }
 
 pub overflow_add-j : goal.overflow_add-j
 overflow_add-j c =
+    let col : (let a = (start c.before).args in c.loop-j.j < halved (a.levels - 1) a.width / 4) = let s = start c.before in
+    let a = s.args in
+    let p = s.pre.0 in
+    omega (arith, c.loop-j-test.true, c.block_of-last.ensures, cell_below (a.levels - 1) a.width (a.v.left + a.v.wide - 1) (across (a.levels - 1) a.levels a.height a.width (omega (arith, p.some)) p.fits) (omega (arith, s.pre.1.0.across, s.pre.1.0.some_columns))) in
     let i = c.before.before.before.before.before in
     let s = start i.before in
-    omega (arith, col c.before.before.before.before.before, halved_le (s.args.levels - 1) s.args.width, s.pre.0.width)
+    omega (arith, col, halved_le (s.args.levels - 1) s.args.width, s.pre.0.width)
 
 pub loop-j-smaller : goal.loop-j-smaller
 loop-j-smaller c = omega (arith, c.loop-j-test.true)

@@ -8,24 +8,33 @@ use Rattle.pyramid.specs.Slices.{sample_of}
 use Rattle.windows.proofs.Filling.{place_inside, stored}
 use Rattle.windows.proofs.store_cell.Goals as goal
 
--- the place is inside s slice
-inside : (s : goal.Start) → let a = s.args in (a.x - a.v.left) * a.v.tall + (a.y - a.v.top) < length a.samples.now
-inside s =
-    let a = s.args in
-    let p = s.requires.1.0 in
-    omega (arith, place_inside a.v a.y a.x p.0 p.1 p.2 p.3, s.requires.0.1)
-
 pub overflow_mul-place : goal.overflow_mul-place
-overflow_mul-place c = let s = c.before.before.before in omega (arith, inside c.before.before.before, c.well_formed)
+overflow_mul-place c =
+    let inside : (let a = c.args in (a.x - a.v.left) * a.v.tall + (a.y - a.v.top) < length a.samples.now) = let a = c.args in
+    let p = c.requires.1.0 in
+    omega (arith, place_inside a.v a.y a.x p.0 p.1 p.2 p.3, c.requires.0.1) in
+    let s = c.before.before.before in omega (arith, inside, c.well_formed)
 
 pub overflow_add-place : goal.overflow_add-place
-overflow_add-place c = let s = c.before.before.before.before in omega (arith, inside c.before.before.before.before, c.well_formed)
+overflow_add-place c =
+    let inside : (let a = c.args in (a.x - a.v.left) * a.v.tall + (a.y - a.v.top) < length a.samples.now) = let a = c.args in
+    let p = c.requires.1.0 in
+    omega (arith, place_inside a.v a.y a.x p.0 p.1 p.2 p.3, c.requires.0.1) in
+    let s = c.before.before.before.before in omega (arith, inside, c.well_formed)
 
 pub offset_bounds-samples-place : goal.offset_bounds-samples-place
-offset_bounds-samples-place c = let s = c.before.before.before.before.before in omega (arith, inside c.before.before.before.before.before, c.well_formed)
+offset_bounds-samples-place c =
+    let inside : (let a = c.args in (a.x - a.v.left) * a.v.tall + (a.y - a.v.top) < length a.samples.now) = let a = c.args in
+    let p = c.requires.1.0 in
+    omega (arith, place_inside a.v a.y a.x p.0 p.1 p.2 p.3, c.requires.0.1) in
+    let s = c.before.before.before.before.before in omega (arith, inside, c.well_formed)
 
 pub bounds-samples-place : goal.bounds-samples-place
-bounds-samples-place c = let s = c.before.before.before.before.before in omega (arith, inside c.before.before.before.before.before, c.well_formed)
+bounds-samples-place c =
+    let inside : (let a = c.args in (a.x - a.v.left) * a.v.tall + (a.y - a.v.top) < length a.samples.now) = let a = c.args in
+    let p = c.requires.1.0 in
+    omega (arith, place_inside a.v a.y a.x p.0 p.1 p.2 p.3, c.requires.0.1) in
+    let s = c.before.before.before.before.before in omega (arith, inside, c.well_formed)
 
 pub returns : goal.returns
 returns c =

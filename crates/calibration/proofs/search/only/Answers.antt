@@ -10,43 +10,36 @@ use Rattle.terms.specs.Terms.{cost_at}
 use Rattle.calibration.proofs.Others.{apart, rest, rest_next, rest_stop, rest_end, dear, whole}
 use Rattle.calibration.proofs.search.only.Goals as goal
 
-low : (c : goal.After-placement_costs-costs) → Low c.placement_costs-costs.result
-low c k l = rw c.placement_costs-costs.ensures (spreads_low c.args.v.now c.requires.3 k l)
-
--- the covering's own cost
-own_is : (c : goal.After-covering_cost-own) → let x = c.args in c.covering_cost-own.result ≡ cost_at (at x.v.now) x.covering
-own_is c =
-    c.covering_cost-own.ensures.1 c.args.v.now c.placement_costs-costs.ensures
-
--- what the test of one covering tells
-told : (c : goal.After-no_tie) → let l = c.before.before.before in let x = c.args in c.no_tie.result ≡ apart x.covering (at x.v.now) c.loop-m.m
-told c =
-    c.no_tie.ensures c.args.v.now c.loop-m.invariant.3
-
 pub covering_cost-own-requires : goal.covering_cost-own-requires
-covering_cost-own-requires c = (c.requires.1, c.requires.2, low c.before)
+covering_cost-own-requires c =
+    let low : Low c.placement_costs-costs.result = λ k l. rw c.placement_costs-costs.ensures (spreads_low c.args.v.now c.requires.3 k l) in
+    (c.requires.1, c.requires.2, low)
 
 pub returns-then-own-ne0 : goal.returns-then-own-ne0
 returns-then-own-ne0 c =
+    let own_is : (let x = c.args in c.covering_cost-own.result ≡ cost_at (at x.v.now) x.covering) = c.covering_cost-own.ensures.1 c.args.v.now c.placement_costs-costs.ensures in
     let x = c.args in
-    dear x.covering (at x.v.now) (λ z. c.if-own-ne0.true (own_is c.before ∙ z))
+    dear x.covering (at x.v.now) (λ z. c.if-own-ne0.true (own_is ∙ z))
 
 pub loop-m-init : goal.loop-m-init
 loop-m-init c =
-    let a = c.before.before.before in
-    (c.requires.1, c.requires.2, low c.before.before.before, c.placement_costs-costs.ensures, sym (own_is c.before) ∙ c.if-own-ne0.false, omega arith, omega arith, refl)
+    let low : Low c.placement_costs-costs.result = λ k l. rw c.placement_costs-costs.ensures (spreads_low c.args.v.now c.requires.3 k l) in
+    let own_is : (let x = c.args in c.covering_cost-own.result ≡ cost_at (at x.v.now) x.covering) = c.covering_cost-own.ensures.1 c.args.v.now c.placement_costs-costs.ensures in
+    (c.requires.1, c.requires.2, low, c.placement_costs-costs.ensures, sym own_is ∙ c.if-own-ne0.false, omega arith, omega arith, refl)
 
 pub no_tie-requires : goal.no_tie-requires
 no_tie-requires c = let inv = c.loop-m.invariant in (inv.0, (inv.5, omega arith), inv.2)
 
 pub returns-then-not-no_tie : goal.returns-then-not-no_tie
 returns-then-not-no_tie c =
+    let told : (let x = c.args in c.no_tie.result ≡ apart x.covering (at x.v.now) c.loop-m.m) = c.no_tie.ensures c.args.v.now c.loop-m.invariant.3 in
     let x = c.args in
     let inv = c.loop-m.invariant in
-    whole x.covering (at x.v.now) inv.4 (sym inv.7 ∙ rest_stop x.covering (at x.v.now) c.loop-m.m (inv.5, omega arith) (sym (told c.before) ∙ c.if-not-no_tie.true))
+    whole x.covering (at x.v.now) inv.4 (sym inv.7 ∙ rest_stop x.covering (at x.v.now) c.loop-m.m (inv.5, omega arith) (sym told ∙ c.if-not-no_tie.true))
 
 pub loop-m-preserved : goal.loop-m-preserved
 loop-m-preserved c =
+    let told : (let x = c.args in c.no_tie.result ≡ apart x.covering (at x.v.now) c.loop-m.m) = c.no_tie.ensures c.args.v.now c.loop-m.invariant.3 in
     let x = c.args in
     let inv = c.loop-m.invariant in (
       inv.0,
@@ -56,7 +49,7 @@ loop-m-preserved c =
       inv.4,
       omega arith,
       omega arith,
-      sym (rest_next x.covering (at x.v.now) c.loop-m.m (inv.5, omega arith) (sym (told c.before) ∙ c.if-not-no_tie.false)) ∙ inv.7,
+      sym (rest_next x.covering (at x.v.now) c.loop-m.m (inv.5, omega arith) (sym told ∙ c.if-not-no_tie.false)) ∙ inv.7,
     )
 
 pub returns : goal.returns

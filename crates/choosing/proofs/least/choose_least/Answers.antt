@@ -10,17 +10,18 @@ use Rattle.costing.proofs.Placements.{spreads_low}
 use Rattle.choosing.proofs.Best.{Rated, best_first, best_next, best_last}
 use Rattle.choosing.proofs.least.choose_least.Goals as goal
 
-low : (c : goal.After-placement_costs-costs) → Low c.placement_costs-costs.result
-low c k l = rw c.placement_costs-costs.ensures (spreads_low c.args.t3 c.requires.2 k l)
-
 rated_is : {costs counts : List ℕ} {n : ℕ} {r : Candidate} → (r.covering ≡ n) × (r.cost ≡ cost_from costs n) × (r.count ≡ get_or counts (n - 1) 0) → Rated costs counts n r
 rated_is q = record { covering = q.0; cost = q.1; count = q.2 }
 
 pub rated-best-requires : goal.rated-best-requires
-rated-best-requires c = (c.requires.1, (omega arith, omega arith), low c.before.before.before)
+rated-best-requires c =
+    let low : Low c.placement_costs-costs.result = λ k l. rw c.placement_costs-costs.ensures (spreads_low c.args.v c.requires.2 k l) in
+    (c.requires.1, (omega arith, omega arith), low)
 
 pub loop-n-init : goal.loop-n-init
-loop-n-init c = (c.requires.1, low c.before.before.before.before, best_first c.rated-best.result (rated_is c.rated-best.ensures))
+loop-n-init c =
+    let low : Low c.placement_costs-costs.result = λ k l. rw c.placement_costs-costs.ensures (spreads_low c.args.v c.requires.2 k l) in
+    (c.requires.1, low, best_first c.rated-best.result (rated_is c.rated-best.ensures))
 
 pub rated-next-requires : goal.rated-next-requires
 rated-next-requires c = let inv = c.loop-n.invariant in (inv.0, (omega (arith, inv.2.from), omega arith), inv.1)
@@ -33,4 +34,4 @@ loop-n-preserved c =
 pub returns : goal.returns
 returns c =
     let p = best_last c.loop-n.invariant.2 (omega arith) in
-    (p.0, λ earlier e. p.1 c.args.t3 earlier c.placement_costs-costs.ensures e)
+    (p.0, λ earlier e. p.1 c.args.v earlier c.placement_costs-costs.ensures e)

@@ -22,7 +22,7 @@ loop-k-preserved c =
       search rules,
       search rules,
       simp length-set (omega arith),
-      put_more c.args.covering c.loop-k.k c.args.t3 c.loop-k.values c.cell_at-cell.result _ inv.1 (omega arith) inv.3 c.cell_at-cell.ensures (kept c.values-1.given) inv.4,
+      put_more c.args.covering c.loop-k.k c.args.labelled c.loop-k.values c.cell_at-cell.result _ inv.1 (omega arith) inv.3 c.cell_at-cell.ensures (kept c.values-1.given) inv.4,
     )
 
 pub returns : goal.returns

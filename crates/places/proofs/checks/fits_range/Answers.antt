@@ -11,9 +11,6 @@ use Rattle.places.specs.Walk.{entry_of}
 use Rattle.places.proofs.Tests.{low_below, low_from, tetrolet_from, power_small}
 use Rattle.places.proofs.checks.fits_range.Goals as goal
 
-m_is : (c : goal.After-magnitude-m) → c.magnitude-m.result ≡ nat_abs c.args.v
-m_is c = c.magnitude-m.ensures ∙ ap nat_abs (to_z-of_z c.ranges.v)
-
 pub returns-then-v-lt0 : goal.returns-then-v-lt0
 returns-then-v-lt0 c =
     let n : lt_z c.args.v (pos 0) ≡ true = rw (to_z-of_z c.ranges.v) at c.if-v-lt0.true in
@@ -24,8 +21,9 @@ overflow_mul-result c = omega (arith, power_small c.args.levels (omega arith))
 
 pub returns-then-k-eq0 : goal.returns-then-k-eq0
 returns-then-k-eq0 c =
+    let m_is : c.magnitude-m.result ≡ nat_abs c.args.v = c.magnitude-m.ensures ∙ ap nat_abs (to_z-of_z c.ranges.v) in
     let n : lt_z c.args.v (pos 0) ≡ false = rw (to_z-of_z c.ranges.v) at c.if-v-lt0.false in
-    (λ i. leb (m_is c.before.before.before.before i) (4095 * c.power.ensures i)) ∙ low_from c.args.levels (entry_of c.args.k) c.args.v (omega arith) n
+    (λ i. leb (m_is i) (4095 * c.power.ensures i)) ∙ low_from c.args.levels (entry_of c.args.k) c.args.v (omega arith) n
 
 pub overflow_sub-p : goal.overflow_sub-p
 overflow_sub-p c = omega arith
@@ -38,4 +36,5 @@ overflow_mul-result-3 c = omega (arith, power_small (c.args.k.level - 1) (omega 
 
 pub returns : goal.returns
 returns c =
-    (λ i. leb (m_is c.before.before.before.before i) (2 * c.power-2.ensures i * 4095)) ∙ tetrolet_from c.args.levels (entry_of c.args.k) c.args.v c.if-k-eq0.false
+    let m_is : c.magnitude-m.result ≡ nat_abs c.args.v = c.magnitude-m.ensures ∙ ap nat_abs (to_z-of_z c.ranges.v) in
+    (λ i. leb (m_is i) (2 * c.power-2.ensures i * 4095)) ∙ tetrolet_from c.args.levels (entry_of c.args.k) c.args.v c.if-k-eq0.false

@@ -6,10 +6,6 @@ use native.Mathlib.Omega.{arith}
 use Rattle.places.proofs.Steps.{to_cell, to_band, to_end, to_level, at_level, next_row, next_col}
 use Rattle.places.proofs.walk.step.Goals as goal
 
--- at the last cell of the last band of a level
-corner : (e : goal.Else-k-lt3) → let k = e.args.k in (k.row + 1 ≡ k.height) × (k.col + 1 ≡ k.width) × (3 ≤ k.band)
-corner e = (omega arith, omega arith, omega arith)
-
 pub returns-then-k : goal.returns-then-k
 returns-then-k c = let k = c.args.k in to_cell c.args.height c.args.width k c.requires.0 c.requires.1 (k.row + 1) k.col (omega arith) (omega arith) (next_row k.col k.row k.height)
 
@@ -24,16 +20,18 @@ returns-then-k-eq1 c = let k = c.args.k in to_end c.args.height c.args.width k c
 
 pub returns-then-k-eq2 : goal.returns-then-k-eq2
 returns-then-k-eq2 c =
+    let corner : (let k = c.args.k in (k.row + 1 ≡ k.height) × (k.col + 1 ≡ k.width) × (3 ≤ k.band)) = (omega arith, omega arith, omega arith) in
     let k = c.args.k in
     let i = c.requires.1 in
-    let e = corner c.before.before.before.before.before.before.before in
+    let e = corner in
     to_level c.args.height c.args.width k c.requires.0 i e.0 e.1 0 k.low c.if-k-eq2.true e.2 refl i.low
 
 pub returns : goal.returns
 returns c =
+    let corner : (let k = c.args.k in (k.row + 1 ≡ k.height) × (k.col + 1 ≡ k.width) × (3 ≤ k.band)) = (omega arith, omega arith, omega arith) in
     let k = c.args.k in
     let i = c.requires.1 in
-    let e = corner c.before.before.before.before.before.before.before.before in
+    let e = corner in
     let l = k.left - 3 in
     let p = c.requires.0 in
     let a : k.left ≡ suc (suc (suc l)) = more k.left p c.if-k-eq1.false c.if-k-eq2.false in

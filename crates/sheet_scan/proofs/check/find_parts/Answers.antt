@@ -49,19 +49,6 @@ K5 = goal.In-To-names_at-2
 s5 : (k : K5) → SkipRead N3 (S k.before.before.before.before.before.before.before.before.before.before.before.before.before.before.before) k.before.before.before.before.before.survey-blocks.result.past k.before.v.given.0.0
 s5 k = skip_at_law N3 (S k.before.before.before.before.before.before.before.before.before.before.before.before.before.before.before) k.before.before.before.before.before.survey-blocks.result.past k.before.v.given.0.0 (sym k.before.before.before.names-at3.ensures ∙ k.before.v.given.1)
 
-s6 : (c : goal.After-survey_entries-w) → let g = c.before in RowsRead five (S g.before.before.before.before.before.before.before.before.before.before.before.before.before.before.before) c.in-To-names_at-2.v c.survey_entries-w.result.past
-s6 c = rows_at five (S g.before.before.before.before.before.before.before.before.before.before.before.before.before.before.before) c.in-To-names_at-2.v c.survey_entries-w.result.past c.survey_entries-w.ensures.past_value
-
-ends : (c : goal.After-survey_entries-w) → let s = S c.before.before.before.before.before.before.before.before.before.before.before.before.before.before.before.before in eqb c.survey_entries-w.result.past (length s) ≡ is_some (parse sheet_form s)
-ends c =
-    let g = c.before in
-    let h = g.before.before.before.before.before in
-    let i = h.before in
-    let j = i.before.before.before.before.before in
-    let k = j.before.before.before.before in
-    at_end_law (S k) c.in-To.p (s1 k) c.in-Of.h.next (s2 j) c.in-To-names_at.t c.survey_blocks-u.result.past (s3 i) (s4 h)
-    c.in-To-names_at-2.v c.survey_entries-w.result.past (s5 g) (s6 c)
-
 pub returns-in_default : goal.returns-in_default
 returns-in_default c = (let s = c.args.s.now in sym (no_1 s (skip_none N1 s 0 (sym c.names_at.ensures ∙ c.in_default.is))), laws)
 
@@ -107,10 +94,27 @@ pub survey_entries-w-requires : goal.survey_entries-w-requires
 survey_entries-w-requires c = (s5 c).within
 
 pub returns-then-w-s : goal.returns-then-w-s
-returns-then-w-s c = (sym (ends c.before.before) ∙ ne_eqb _ _ c.if-w-s.true, laws)
+returns-then-w-s c =
+    let s6 : (let g = c.before in RowsRead five (S g.before.before.before.before.before.before.before.before.before.before.before.before.before.before.before) c.in-To-names_at-2.v c.survey_entries-w.result.past) = rows_at five (S g.before.before.before.before.before.before.before.before.before.before.before.before.before.before.before) c.in-To-names_at-2.v c.survey_entries-w.result.past c.survey_entries-w.ensures.past_value in
+    let ends : (let s = S c.before.before.before.before.before.before.before.before.before.before.before.before.before.before.before.before in eqb c.survey_entries-w.result.past (length s) ≡ is_some (parse sheet_form s)) = let g = c.before in
+    let h = g.before.before.before.before.before in
+    let i = h.before in
+    let j = i.before.before.before.before.before in
+    let k = j.before.before.before.before in
+    at_end_law (S k) c.in-To.p (s1 k) c.in-Of.h.next (s2 j) c.in-To-names_at.t c.survey_blocks-u.result.past (s3 i) (s4 h)
+    c.in-To-names_at-2.v c.survey_entries-w.result.past (s5 g) s6 in
+    (sym ends ∙ ne_eqb _ _ c.if-w-s.true, laws)
 
 pub returns : goal.returns
 returns c =
+    let s6 : (let g = c.before in RowsRead five (S g.before.before.before.before.before.before.before.before.before.before.before.before.before.before.before) c.in-To-names_at-2.v c.survey_entries-w.result.past) = rows_at five (S g.before.before.before.before.before.before.before.before.before.before.before.before.before.before.before) c.in-To-names_at-2.v c.survey_entries-w.result.past c.survey_entries-w.ensures.past_value in
+    let ends : (let s = S c.before.before.before.before.before.before.before.before.before.before.before.before.before.before.before.before in eqb c.survey_entries-w.result.past (length s) ≡ is_some (parse sheet_form s)) = let g = c.before in
+    let h = g.before.before.before.before.before in
+    let i = h.before in
+    let j = i.before.before.before.before.before in
+    let k = j.before.before.before.before in
+    at_end_law (S k) c.in-To.p (s1 k) c.in-Of.h.next (s2 j) c.in-To-names_at.t c.survey_blocks-u.result.past (s3 i) (s4 h)
+    c.in-To-names_at-2.v c.survey_entries-w.result.past (s5 g) s6 in
     let x = c.before.before in
     let g = x.before in
     let h = g.before.before.before.before.before in
@@ -119,4 +123,4 @@ returns c =
     let p = c.in-To.p in
     let f = c.in-Of.h in
     let e = c.if-w-s.false in
-    let y = three_line (S k) p f (sym c.three_at.ensures ∙ c.in-Of.is) in record { found_in = laid (S k) p c.in-To-names_at.t c.survey_blocks-u.result.past c.in-To-names_at-2.v c.survey_entries-w.result.past f c.survey_blocks-u.result.ordered c.survey_blocks-u.result.numbered c.survey_entries-w.result.rising c.survey_entries-w.result.fitting (s1 k) y (s3 i) (s4 h) (s5 g) (s6 c.before.before) (sym (ends c.before.before) ∙ eq-eqb _ _ e) (omega (arith, e)) c.survey_blocks-u.ensures.tiled c.survey_entries-w.ensures.surveyed; sheet_laws = laws }
+    let y = three_line (S k) p f (sym c.three_at.ensures ∙ c.in-Of.is) in record { found_in = laid (S k) p c.in-To-names_at.t c.survey_blocks-u.result.past c.in-To-names_at-2.v c.survey_entries-w.result.past f c.survey_blocks-u.result.ordered c.survey_blocks-u.result.numbered c.survey_entries-w.result.rising c.survey_entries-w.result.fitting (s1 k) y (s3 i) (s4 h) (s5 g) s6 (sym ends ∙ eq-eqb _ _ e) (omega (arith, e)) c.survey_blocks-u.ensures.tiled c.survey_entries-w.ensures.surveyed; sheet_laws = laws }

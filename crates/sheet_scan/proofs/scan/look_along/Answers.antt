@@ -17,28 +17,6 @@ use Rattle.sheet_scan.proofs.Scans.{some_stop, some_left, some_skip, some_line, 
 use Rattle.sheet_scan.proofs.Fronts.{small, ended, Reached, reached, line_of, value_of, others_of}
 use Rattle.sheet_scan.proofs.scan.look_along.Goals as goal
 
--- the line s was read
-line : (s : goal.After-seek-k) → FiveLine s.args.s.now s.loop-f.p s.in-Of.f
-line s = five_line s.args.s.now s.loop-f.p s.in-Of.f (sym s.read_five.ensures ∙ s.in-Of.is)
-
-read : (s : goal.After-seek-k) → RowRead five s.args.s.now s.loop-f.p s.in-Of.f.next
-read s = five_at_law s.args.s.now s.loop-f.p s.in-Of.f (sym s.read_five.ensures ∙ s.in-Of.is)
-
--- the lines end where they did
-went : (s : goal.After-seek-k) → let a = s.args in fives_at a.s.now s.in-Of.f.next ≡ fives_at a.s.now a.at
-went s =
-    let a = s.args in
-    let l = s.loop-f in
-    let r = read s in
-    sym (past_next five a.s.now l.p s.in-Of.f.next r.cells (omega arith) r.read) ∙ l.invariant.3
-
--- its place, and what is left behind it
-place : (s : goal.After-seek-k) → 0 < s.seek-k.result.left → let a = s.args in Reached a.height a.width s.in-Of.f s.loop-f.k s.seek-k.result
-place s p = let a = s.args in reached a.height a.width s.in-Of.f s.loop-f.k s.seek-k.result s.seek-k.ensures p
-
-in_plane : (e : goal.Else-k-eq0) → 0 < e.seek-k.result.left
-in_plane e = omega (arith, e.if-k-eq0.false)
-
 pub first-k-requires : goal.first-k-requires
 first-k-requires c = (c.requires.0, c.requires.1)
 
@@ -65,15 +43,23 @@ pub seek-k-requires : goal.seek-k-requires
 seek-k-requires c = let l = c.loop-f in (l.invariant.1, l.invariant.0)
 
 pub pass_fives-past-requires : goal.pass_fives-past-requires
-pass_fives-past-requires c = (read c.before.before).within
+pass_fives-past-requires c =
+    let read : RowRead five c.args.s.now c.loop-f.p c.in-Of.f.next = five_at_law c.args.s.now c.loop-f.p c.in-Of.f (sym c.read_five.ensures ∙ c.in-Of.is) in
+    read.within
 
 pub returns-then-k-eq0 : goal.returns-then-k-eq0
 returns-then-k-eq0 c =
+    let line : FiveLine c.args.s.now c.loop-f.p c.in-Of.f = five_line c.args.s.now c.loop-f.p c.in-Of.f (sym c.read_five.ensures ∙ c.in-Of.is) in
+    let read : RowRead five c.args.s.now c.loop-f.p c.in-Of.f.next = five_at_law c.args.s.now c.loop-f.p c.in-Of.f (sym c.read_five.ensures ∙ c.in-Of.is) in
+    let went : (let a = c.args in fives_at a.s.now c.in-Of.f.next ≡ fives_at a.s.now a.at) = let a = c.args in
+    let l = c.loop-f in
+    let r = read in
+    sym (past_next five a.s.now l.p c.in-Of.f.next r.cells (omega arith) r.read) ∙ l.invariant.3 in
     let s = c.before.before.before in
     let a = c.args in
     let l = c.loop-f in
     let f = c.in-Of.f in
-    let x = line c.before.before.before in
+    let x = line in
     let q = c.seek-k.ensures.skipped in
     let K = places_left l.k in
     let K' = places_left c.seek-k.result in
@@ -81,7 +67,7 @@ returns-then-k-eq0 c =
     let rs = lines_at five a.s.now l.p in
     let rs' = lines_at five a.s.now f.next in
     let o = others_of a.s.now l.p f x rs' q.places q.others in (
-      c.pass_fives-past.ensures ∙ went c.before.before.before,
+      c.pass_fives-past.ensures ∙ went,
       some_left l.rising K' x.cells rs' rs e x.lines ∙ some_skip x.cells rs' l.rising q.places K K' rs o q.all x.lines ∙ l.invariant.4,
       fit_done a.levels l.fitting K' rs e ∙ fit_skip x.cells rs' a.levels l.fitting q.places K K' rs o q.all x.lines ∙ l.invariant.5,
     )
@@ -101,18 +87,28 @@ past_line-k-requires c =
     (m.0, m.1, q.found (omega arith))
 
 pub loop-f-smaller : goal.loop-f-smaller
-loop-f-smaller c = (read c.before.before.before.before.before.before.before.before.before).less
+loop-f-smaller c =
+    let read : RowRead five c.args.s.now c.loop-f.p c.in-Of.f.next = five_at_law c.args.s.now c.loop-f.p c.in-Of.f (sym c.read_five.ensures ∙ c.in-Of.is) in
+    read.less
 
 pub loop-f-preserved : goal.loop-f-preserved
 loop-f-preserved c =
+    let line : FiveLine c.args.s.now c.loop-f.p c.in-Of.f = five_line c.args.s.now c.loop-f.p c.in-Of.f (sym c.read_five.ensures ∙ c.in-Of.is) in
+    let read : RowRead five c.args.s.now c.loop-f.p c.in-Of.f.next = five_at_law c.args.s.now c.loop-f.p c.in-Of.f (sym c.read_five.ensures ∙ c.in-Of.is) in
+    let went : (let a = c.args in fives_at a.s.now c.in-Of.f.next ≡ fives_at a.s.now a.at) = let a = c.args in
+    let l = c.loop-f in
+    let r = read in
+    sym (past_next five a.s.now l.p c.in-Of.f.next r.cells (omega arith) r.read) ∙ l.invariant.3 in
+    let place : 0 < c.seek-k.result.left → let a = c.args in Reached a.height a.width c.in-Of.f c.loop-f.k c.seek-k.result = λ p. let a = c.args in reached a.height a.width c.in-Of.f c.loop-f.k c.seek-k.result c.seek-k.ensures p in
+    let in_plane : 0 < c.seek-k.result.left = omega (arith, c.if-k-eq0.false) in
     let s = c.before.before.before.before.before.before.before.before.before in
     let a = c.args in
     let l = c.loop-f in
     let f = c.in-Of.f in
-    let x = line c.before.before.before.before.before.before.before.before.before in
+    let x = line in
     let k = c.seek-k.result in
-    let g = in_plane c.before.before.before.before.before.before.before in
-    let w = place c.before.before.before.before.before.before.before.before.before g in
+    let g = in_plane in
+    let w = place g in
     let p = entry_of (walk_to k f) in
     let t = places_left c.past_line-k.result in
     let rs = lines_at five a.s.now l.p in
@@ -122,8 +118,8 @@ loop-f-preserved c =
     let h = sym (line_of a.s.now l.p f x p) ∙ w.here in (
       subst (λ z. Standing a.height a.width z) (sym c.past_line-k.ensures) c.seek-k.ensures.skipped.standing,
       omega (arith, g, ap (λ z. z.left) c.past_line-k.ensures),
-      (read c.before.before.before.before.before.before.before.before.before).within,
-      went c.before.before.before.before.before.before.before.before.before,
+      read.within,
+      went,
       some_line x.cells rs' l.rising c.is_zero-zero.result c.both-rising.result w.places (places_left l.k) t p rs o e x.lines h c.both-rising.ensures (c.is_zero-zero.ensures ∙ ap is_zero (value_of a.s.now l.p f x)) ∙ l.invariant.4,
       fit_line x.cells rs' a.levels l.fitting c.fits_range-fits.result c.both-fitting.result w.places (places_left l.k) t p rs o e x.lines h c.both-fitting.ensures
           (c.fits_range-fits.ensures ∙ (λ i. fits_range a.levels (entry_of (c.walk_to-here.ensures i)) (value_of a.s.now l.p f x i))) ∙ l.invariant.5,

@@ -19,14 +19,6 @@ use Rattle.sheet_scan.proofs.Stored.{Filling, cleared, same_plane, all_lines, al
 use Rattle.sheet_scan.proofs.Fronts.{small, walking, ahead, ended, Reached, reached, line_of, value_of, others_of}
 use Rattle.sheet_scan.proofs.scan.store_values.Goals as goal
 
--- the line s was read
-line : (s : goal.After-seek-k) → FiveLine s.args.s.now s.loop-f.p s.in-Of.f
-line s = five_line s.args.s.now s.loop-f.p s.in-Of.f (sym s.read_five.ensures ∙ s.in-Of.is)
-
--- its place, and what is left behind it
-place : (s : goal.After-seek-k) → 0 < s.seek-k.result.left → let a = s.args in Reached a.height a.width s.in-Of.f s.loop-f.k s.seek-k.result
-place s p = let a = s.args in reached a.height a.width s.in-Of.f s.loop-f.k s.seek-k.result s.seek-k.ensures p
-
 -- what the checks let through, and the cleared plane
 fine : (b : goal.At-loop-f) → let a = b.args in Passed a.height a.width a.levels
 fine b = passed b.args.height b.args.width b.args.levels b.requires.0.0 b.requires.0.1
@@ -81,12 +73,13 @@ shape_of-plane-then-k-eq0 c = let b = c.before.before.before.before.before.befor
 
 pub returns-then-k-eq0 : goal.returns-then-k-eq0
 returns-then-k-eq0 c =
+    let line : FiveLine c.args.s.now c.loop-f.p c.in-Of.f = five_line c.args.s.now c.loop-f.p c.in-Of.f (sym c.read_five.ensures ∙ c.in-Of.is) in
     let s = c.before.before in
     let b = s.before.before.before.before.before in
     let a = c.args in
     let l = c.loop-f in
     let f = c.in-Of.f in
-    let x = line c.before.before in
+    let x = line in
     let q = c.seek-k.ensures.skipped in
     let rs' = lines_at five a.s.now f.next in
     let o = others_of a.s.now l.p f x rs' q.places q.others in
@@ -123,14 +116,16 @@ loop-f-smaller c =
 
 pub loop-f-preserved : goal.loop-f-preserved
 loop-f-preserved c =
+    let line : FiveLine c.args.s.now c.loop-f.p c.in-Of.f = five_line c.args.s.now c.loop-f.p c.in-Of.f (sym c.read_five.ensures ∙ c.in-Of.is) in
+    let place : 0 < c.seek-k.result.left → let a = c.args in Reached a.height a.width c.in-Of.f c.loop-f.k c.seek-k.result = λ p. let a = c.args in reached a.height a.width c.in-Of.f c.loop-f.k c.seek-k.result c.seek-k.ensures p in
     let s = c.before.before.before.before.before.before in
     let a = c.args in
     let l = c.loop-f in
     let f = c.in-Of.f in
-    let x = line c.before.before.before.before.before.before in
+    let x = line in
     let k = c.seek-k.result in
     let g = in_plane c.before.before.before.before in
-    let w = place c.before.before.before.before.before.before g in
+    let w = place g in
     let p = entry_of (walk_to k f) in
     let t = places_left c.past_line-k.result in
     let rs' = lines_at five a.s.now f.next in

@@ -10,15 +10,6 @@ use Rattle.quota.specs.Quota.{ranks}
 use Rattle.sifting.proofs.Turns.{at_start, here_now, run_step, run_small, run_all}
 use Rattle.sifting.proofs.ranks.count_runs.Goals as goal
 
--- the rank is that of the present entry
-ranked : (c : goal.After-rank_of-r) → let s = c.before.before.before.before.before.before.before in let l = c.loop-k in
-    c.rank_of-r.result ≡ get_or (ranks c.args.levels c.args.height c.args.width (image_of c.args.height c.args.plane.now)) l.invariant.number 0
-ranked c =
-    let l = c.loop-k in
-    let h = here_now c.args.levels c.args.height c.args.width c.args.plane.now c.requires.0 l.k l.invariant.number l.invariant.place c.loop-k-test.true in
-    let e = kept c.v-1.given ∙ ap (λ (j : ℕ). get_or c.args.plane.now j (pos 0)) (c.index_of-i.ensures.0 ∙ h.index) in
-    c.rank_of-r.ensures.0 ∙ ap (λ (z : ℤ). nat_abs z * 2 ^ (c.args.levels - l.k.level)) e ∙ sym h.rank
-
 pub first_tetrolet-k-requires : goal.first_tetrolet-k-requires
 first_tetrolet-k-requires c = (c.requires.0.sided, c.requires.0.deep)
 
@@ -50,7 +41,13 @@ pub loop-k-smaller : goal.loop-k-smaller
 loop-k-smaller c = let e = ap length c.step-k.ensures.entries in omega arith
 
 pub loop-k-preserved : goal.loop-k-preserved
-loop-k-preserved c = let l = c.loop-k in run_step c.args.levels c.args.height c.args.width c.args.base (2 ^ c.args.shift) c.args.plane.now c.requires.0 l.counts c.count_rank.new.counts l.k c.step-k.result l.invariant c.step-k.ensures c.rank_of-r.result (ranked c.before.before.before) c.count_rank.ensures
+loop-k-preserved c =
+    let ranked : (let s = c.before.before.before.before.before.before.before in let l) = c.loop-k in
+    c.rank_of-r.result ≡ get_or (ranks c.args.levels c.args.height c.args.width (image_of c.args.height c.args.plane.now)) l.invariant.number 0 = let l = c.loop-k in
+    let h = here_now c.args.levels c.args.height c.args.width c.args.plane.now c.requires.0 l.k l.invariant.number l.invariant.place c.loop-k-test.true in
+    let e = kept c.v-1.given ∙ ap (λ (j : ℕ). get_or c.args.plane.now j (pos 0)) (c.index_of-i.ensures.0 ∙ h.index) in
+    c.rank_of-r.ensures.0 ∙ ap (λ (z : ℤ). nat_abs z * 2 ^ (c.args.levels - l.k.level)) e ∙ sym h.rank in
+    let l = c.loop-k in run_step c.args.levels c.args.height c.args.width c.args.base (2 ^ c.args.shift) c.args.plane.now c.requires.0 l.counts c.count_rank.new.counts l.k c.step-k.result l.invariant c.step-k.ensures c.rank_of-r.result ranked c.count_rank.ensures
 
 pub returns : goal.returns
 returns c = let l = c.loop-k in run_all c.args.levels c.args.height c.args.width c.args.base (2 ^ c.args.shift) c.args.plane.now c.requires.0 l.counts l.k l.invariant (omega (arith, c.loop-k-test.false))
