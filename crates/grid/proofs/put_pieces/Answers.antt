@@ -10,6 +10,7 @@ use Rattle.tables.specs.Tables.{cell_at}
 use Rattle.kernel.specs.Kernel.{at}
 use Rattle.grid.proofs.Near.{column_near}
 use Rattle.grid.proofs.put_pieces.Goals as goal
+use Rattle.grid.proofs.put_pieces.Goals.{After-cell_at-cell}
 
 -- the cell is near c block's first
 near : (c : goal.After-cell_at-cell) → c.args.start + c.cell_at-cell.result / 4 * c.args.height + c.cell_at-cell.result % 4 < length c.args.out.now
@@ -38,10 +39,10 @@ pub bounds-v-k : goal.bounds-v-k
 bounds-v-k c = omega arith
 
 pub offset_bounds-out-place : goal.offset_bounds-out-place
-offset_bounds-out-place c = omega (arith, near c.before, c.well_formed)
+offset_bounds-out-place c = omega (arith, near (goal.at.offset_bounds-out-place c).After-cell_at-cell, c.well_formed)
 
 pub bounds-out-place : goal.bounds-out-place
-bounds-out-place c = omega (arith, near c.before, c.loop-k.invariant.1)
+bounds-out-place c = omega (arith, near (goal.at.bounds-out-place c).After-cell_at-cell, c.loop-k.invariant.1)
 
 pub overflow_add-k : goal.overflow_add-k
 overflow_add-k c = omega arith

@@ -10,7 +10,7 @@ use Rattle.grid.proofs.put_pieces.Given as goal
 
 abbrev pub invariant-loop-k : goal.invariant-loop-k
 invariant-loop-k l =
-    (l.k ≤ 16) × (length l.out ≡ length l.initial.out) × (l.out ≡ scatter (λ l.k. cell_place l.height l.start (cell_at l.covering l.k)) (at l.v) l.k l.initial.out)
+    (l.k ≤ 16) × (length l.out ≡ length l.initial.out) × (l.out ≡ scatter (λ k. cell_place l.height l.start (cell_at l.covering k)) (at l.v) l.k l.initial.out)
 
 abbrev pub decreases-loop-k : goal.decreases-loop-k
 decreases-loop-k l = 16 - l.k

@@ -17,7 +17,7 @@ loop-i-init c = (omega arith, refl, refl)
 
 pub merge_block-requires : goal.merge_block-requires
 merge_block-requires c =
-    record { cells_value = ((c.requires.0, (c.requires.1.0, (omega arith, omega arith, omega arith)))).0; level = ((c.requires.0, (c.requires.1.0, (omega arith, omega arith, omega arith)))).1; height_in_bounds = ((c.requires.0, (c.requires.1.0, (omega arith, omega arith, omega arith)))).2 }
+    record { cells_value = c.requires.cells_value; level = c.requires.level; height_in_bounds = (omega arith, omega arith, omega arith) }
 
 pub loop-i-preserved : goal.loop-i-preserved
 unfolding put_column

@@ -17,7 +17,7 @@ use Rattle.grid.proofs.Near.{result_near}
 use Rattle.synthesis.proofs.results_of.Goals as goal
 
 pub loop-k-init : goal.loop-k-init
-loop-k-init c = (omega arith, c.requires.0, refl, refl, refl)
+loop-k-init c = (omega arith, c.requires.by_index, refl, refl, refl)
 
 pub offset_bounds-begin-k : goal.offset_bounds-begin-k
 offset_bounds-begin-k c = omega arith
@@ -44,7 +44,7 @@ pub count-requires : goal.count-requires
 count-requires c =
     let a = c.args in
     let k = c.loop-k.k in
-    (c.requires.1.0, rw (kept c.count-arg-1.given, ← weighted_at a.weight (band_place a.height a.begin) a.image.now k (omega arith)) (c.requires.1.1 k (omega arith)))
+    (c.requires.weight_bound.0, rw (kept c.count-arg-1.given, ← weighted_at a.weight (band_place a.height a.begin) a.image.now k (omega arith)) (c.requires.weight_bound.1 k (omega arith)))
 
 pub offset_bounds-v-k : goal.offset_bounds-v-k
 offset_bounds-v-k c = omega arith
@@ -61,7 +61,7 @@ loop-k-preserved c =
     let a = c.args in
     let g = band_place a.height a.begin in
     let entry = weighted_at a.weight g a.image.now c.loop-k.k (omega arith) in
-    let bound : nat_abs (at (weighted a.weight g a.image.now) c.loop-k.k) ≤ 2 ^ 40 = c.requires.1.1 c.loop-k.k (omega arith) in (
+    let bound : nat_abs (at (weighted a.weight g a.image.now) c.loop-k.k) ≤ 2 ^ 40 = c.requires.weight_bound.1 c.loop-k.k (omega arith) in (
       omega arith,
       inv.1,
       inv.2,

@@ -12,16 +12,16 @@ use Rattle.synthesis.proofs.Merging.{columns_length}
 use Rattle.synthesis.proofs.rise.Goals as goal
 
 pub merge_level-requires : goal.merge_level-requires
-merge_level-requires c = record { cells_value = ((c.requires.0, (c.requires.1.0, omega (arith, c.requires.1.0.long, c.requires.1.1)))).0; level = ((c.requires.0, (c.requires.1.0, omega (arith, c.requires.1.0.long, c.requires.1.1)))).1; height_in_bounds = ((c.requires.0, (c.requires.1.0, omega (arith, c.requires.1.0.long, c.requires.1.1)))).2 }
+merge_level-requires c = record { cells_value = c.requires.cells_value; level = c.requires.level; height_in_bounds = omega (arith, c.requires.level.long, c.requires.scratch_len) }
 
 pub copy_rectangle-requires : goal.copy_rectangle-requires
 copy_rectangle-requires c =
     let a = c.args in
-    let v = c.requires.1.0 in
+    let v = c.requires.level in
     let long = ap length c.merge_level.ensures ∙ columns_length a.height (merged_block a.height a.tall a.wide a.weight (after a.first (listed a.coverings.now)) a.numerators.now) (a.tall / 4) (a.wide / 4) a.scratch.now (omega (arith, v.inside)) in
-    (v.inside, omega (arith, long, v.long, c.requires.1.1), v.long)
+    (v.inside, omega (arith, long, v.long, c.requires.scratch_len), v.long)
 
 pub returns : goal.returns
 returns c =
     let a = c.args in
-record { scratch_after = c.merge_level.ensures; numerators_after = c.copy_rectangle.ensures ∙ ap (λ (x : List ℤ). rectangles a.height a.tall a.wide x a.numerators.now) c.merge_level.ensures }
+    record { scratch_after = c.merge_level.ensures; numerators_after = c.copy_rectangle.ensures ∙ ap (λ (x : List ℤ). rectangles a.height a.tall a.wide x a.numerators.now) c.merge_level.ensures }

@@ -17,15 +17,15 @@ pub loop-i-init : goal.loop-i-init
 loop-i-init c = (omega arith, c.power-unit.ensures, refl, refl)
 
 pub offset_bounds-numerators-i : goal.offset_bounds-numerators-i
-offset_bounds-numerators-i c = omega (arith, c.well_formed, c.requires.0)
+offset_bounds-numerators-i c = omega (arith, c.well_formed, c.requires.levels_bound)
 
 pub bounds-numerators-i : goal.bounds-numerators-i
-bounds-numerators-i c = omega (arith, c.requires.0)
+bounds-numerators-i c = omega (arith, c.requires.levels_bound)
 
 pub sample-requires : goal.sample-requires
 sample-requires c =
     let i = c.loop-i.i in
-    (rw (kept c.sample-arg-1.given) (c.requires.1 i (omega (arith, c.requires.0))), c.requires.0.0, omega (arith, c.loop-i.invariant.1))
+    (rw (kept c.sample-arg-1.given) (c.requires.by_index i (omega (arith, c.requires.levels_bound))), c.requires.levels_bound.0, omega (arith, c.loop-i.invariant.1))
 
 pub offset_bounds-samples-i : goal.offset_bounds-samples-i
 offset_bounds-samples-i c = omega (arith, c.well_formed)
@@ -46,7 +46,7 @@ loop-i-preserved c =
       omega arith,
       c.loop-i.invariant.1,
       simp length-set (omega arith),
-      half_store (map f n) _ c.loop-i.i (f (pos 0)) c.loop-i.invariant.3 (value ∙ sym (get_or-map f n c.loop-i.i (pos 0))) (length-map n f ∙ sym c.requires.0.1) (omega arith),
+      half_store (map f n) _ c.loop-i.i (f (pos 0)) c.loop-i.invariant.3 (value ∙ sym (get_or-map f n c.loop-i.i (pos 0))) (length-map n f ∙ sym c.requires.levels_bound.1) (omega arith),
     )
 
 pub shape_of-samples : goal.shape_of-samples
@@ -54,4 +54,4 @@ shape_of-samples c = c.loop-i.invariant.2
 
 pub returns : goal.returns
 returns c =
-    c.loop-i.invariant.3 ∙ half_end (map (sample_of c.args.levels) c.args.numerators.now) _ c.loop-i.i (length-map c.args.numerators.now (sample_of c.args.levels) ∙ sym c.requires.0.1) (omega arith)
+    c.loop-i.invariant.3 ∙ half_end (map (sample_of c.args.levels) c.args.numerators.now) _ c.loop-i.i (length-map c.args.numerators.now (sample_of c.args.levels) ∙ sym c.requires.levels_bound.1) (omega arith)

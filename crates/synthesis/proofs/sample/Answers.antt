@@ -12,4 +12,4 @@ pub hold-requires : goal.hold-requires
 hold-requires c = tt
 
 pub returns : goal.returns
-returns c = c.hold.ensures ∙ ap held (kept c.nearest_to.type-inv ∙ c.nearest_to.ensures ∙ ap (nearest c.args.levels) (to_z-of_z c.ranges.y))
+returns c = c.hold.ensures ∙ ap held (kept c.nearest_to.type_inv ∙ c.nearest_to.ensures ∙ ap (nearest c.args.levels) (to_z-of_z c.ranges.y))

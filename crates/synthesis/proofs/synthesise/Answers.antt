@@ -14,6 +14,7 @@ use Rattle.synthesis.specs.Synthesis.{Level, merged_block, put_columns}
 use Rattle.synthesis.proofs.Merging.{columns_length}
 use Rattle.synthesis.proofs.Deeper.{Reached, Turn, reach_none, reach_all, turn_of, turn_takes, turn_level, turn_reached}
 use Rattle.synthesis.proofs.synthesise.Goals as goal
+use Rattle.synthesis.proofs.synthesise.Goals.{In-loop-left}
 
 turn : (c : goal.In-loop-left) → let l = c.loop-left in let a = c.args in
     Turn a.levels a.height a.width l.left (a.height / 2 ^ (l.left - 1)) (a.width / 2 ^ (l.left - 1)) (l.first - a.width / 2 ^ (l.left - 1) / 4 * (a.height / 2 ^ (l.left - 1) / 4)) l.weight (l.left - 1)
@@ -32,7 +33,7 @@ level : (c : goal.In-loop-left) → let l = c.loop-left in let a = c.args in
     Level a.height (a.height / 2 ^ (l.left - 1)) (a.width / 2 ^ (l.left - 1)) l.weight (l.first - a.width / 2 ^ (l.left - 1) / 4 * (a.height / 2 ^ (l.left - 1) / 4)) a.coverings.now l.numerators
 level c =
     let l = c.loop-left in
-    turn_level c.requires.1.0 (turn c) l.numerators l.invariant.3 l.invariant.5
+    turn_level c.requires.mergeable (turn c) l.numerators l.invariant.3 l.invariant.5
 
 -- the values c the level's blocks
 abbrev values : (c : goal.In-loop-left) → ℕ → ℕ → List ℤ
@@ -52,22 +53,22 @@ loop-left-init c =
     let a = c.args in
     let none : a.levels - a.levels ≡ 0 = omega arith in (
       omega arith,
-      c.requires.1.0.covered,
+      c.requires.mergeable.covered,
       rw none refl,
-      c.requires.1.0.plane_long,
-      c.requires.1.1,
-      rw none (reach_none c.requires.1.0),
-      c.requires.1.0.some,
+      c.requires.mergeable.plane_long,
+      c.requires.scratch_len,
+      rw none (reach_none c.requires.mergeable),
+      c.requires.mergeable.some,
     )
 
 pub overflow_sub-left : goal.overflow_sub-left
 overflow_sub-left c = omega arith
 
 pub overflow_shr-tall : goal.overflow_shr-tall
-overflow_shr-tall c = omega (arith, c.requires.1.0.most)
+overflow_shr-tall c = omega (arith, c.requires.mergeable.most)
 
 pub overflow_shr-wide : goal.overflow_shr-wide
-overflow_shr-wide c = omega (arith, c.requires.1.0.most)
+overflow_shr-wide c = omega (arith, c.requires.mergeable.most)
 
 pub overflow_mul-first : goal.overflow_mul-first
 overflow_mul-first c = omega (arith, (level c).covered, c.well_formed)
@@ -77,19 +78,17 @@ overflow_sub-first c = takes c
 
 pub rise-requires : goal.rise-requires
 rise-requires c =
-    let i = c.before.before in
-
-record { cells_value = ((c.requires.0, (level c.before.before, omega (arith, c.loop-left.invariant.3, c.loop-left.invariant.4)))).0; level = ((c.requires.0, (level c.before.before, omega (arith, c.loop-left.invariant.3, c.loop-left.invariant.4)))).1; scratch_len = ((c.requires.0, (level c.before.before, omega (arith, c.loop-left.invariant.3, c.loop-left.invariant.4)))).2 }
+    record { cells_value = c.requires.cells_value; level = level (goal.at.rise-requires c).In-loop-left; scratch_len = omega (arith, c.loop-left.invariant.3, c.loop-left.invariant.4) }
 
 pub overflow_mul-weight : goal.overflow_mul-weight
-overflow_mul-weight c = omega (arith, (level c.before.before.before.before.before).weight)
+overflow_mul-weight c = omega (arith, (level (goal.at.overflow_mul-weight c).In-loop-left).weight)
 
 pub loop-left-smaller : goal.loop-left-smaller
 loop-left-smaller c = omega arith
 
 pub loop-left-preserved : goal.loop-left-preserved
 loop-left-preserved c =
-    let i = c.before.before.before.before.before in
+    let i = (goal.at.loop-left-preserved c).In-loop-left in
     let l = c.loop-left in
     let a = c.args in
     let d = l.left - 1 in
@@ -97,38 +96,34 @@ loop-left-preserved c =
     let wide = a.width / 2 ^ d in
     let e : a.levels - d ≡ suc (a.levels - l.left) = omega arith in (
       omega arith,
-      (turn c.before.before.before.before.before).first_is,
+      (turn i).first_is,
       omega (arith, l.invariant.2, ap (λ (n : ℕ). 4 ^ n) e, pow-suc 4 (a.levels - l.left)),
-      ap length c.rise.ensures.numerators_after ∙ length_rectangles (put_columns a.height (values c.before.before.before.before.before) (tall / 4) (wide / 4) l.scratch) a.height tall (level c.before.before.before.before.before).inside l.numerators wide ∙ l.invariant.3,
-      ap length c.rise.ensures.scratch_after ∙ scratch_length c.before.before.before.before.before,
+      ap length c.rise.ensures.numerators_after ∙ length_rectangles (put_columns a.height (values i) (tall / 4) (wide / 4) l.scratch) a.height tall (level i).inside l.numerators wide ∙ l.invariant.3,
+      ap length c.rise.ensures.scratch_after ∙ scratch_length i,
       subst⁻¹ (λ (x : List ℤ). Reached a.height a.width d (a.levels - d) a.coverings.now (image_of a.height a.numerators.now) (image_of a.height x)) c.rise.ensures.numerators_after
-          (turn_reached c.requires.1.0 (turn c.before.before.before.before.before) l.numerators l.invariant.3 l.invariant.5 l.scratch l.invariant.4),
+          (turn_reached c.requires.mergeable (turn i) l.numerators l.invariant.3 l.invariant.5 l.scratch l.invariant.4),
       omega arith,
     )
 
 pub rise-requires-2 : goal.rise-requires-2
 rise-requires-2 c =
-    let i = c.before.before in
-
-record { cells_value =
-    let last : (let l = c.loop-left in let a) = c.args in Turn a.levels a.height a.width l.left a.height a.width 0 l.weight 0 = let l = c.loop-left in record { is = omega arith; within = l.invariant.0; tall_is = refl; wide_is = refl; first_is = refl; weight_is = l.invariant.2 } in
-    let last_level : (let l = c.loop-left in let a) = c.args in Level a.height a.height a.width l.weight 0 a.coverings.now l.numerators = let l = c.loop-left in turn_level c.requires.1.0 last l.numerators l.invariant.3 l.invariant.5 in
-    ((c.requires.0, (last_level, omega (arith, c.loop-left.invariant.3, c.loop-left.invariant.4)))).0; level = ((c.requires.0, (last_level, omega (arith, c.loop-left.invariant.3, c.loop-left.invariant.4)))).1; scratch_len = ((c.requires.0, (last_level, omega (arith, c.loop-left.invariant.3, c.loop-left.invariant.4)))).2 }
+    let last : (let l = c.loop-left in let a = c.args in Turn a.levels a.height a.width l.left a.height a.width 0 l.weight 0) = let l = c.loop-left in record { is = omega arith; within = l.invariant.0; tall_is = refl; wide_is = refl; first_is = refl; weight_is = l.invariant.2 } in
+    let last_level : (let l = c.loop-left in let a = c.args in Level a.height a.height a.width l.weight 0 a.coverings.now l.numerators) = let l = c.loop-left in turn_level c.requires.mergeable last l.numerators l.invariant.3 l.invariant.5 in
+    record { cells_value = c.requires.cells_value; level = last_level; scratch_len = omega (arith, c.loop-left.invariant.3, c.loop-left.invariant.4) }
 
 pub clear-requires : goal.clear-requires
 clear-requires c = tt
 
 pub returns : goal.returns
 returns c =
-    let last : (let l = c.loop-left in let a) = c.args in Turn a.levels a.height a.width l.left a.height a.width 0 l.weight 0 = let l = c.loop-left in record { is = omega arith; within = l.invariant.0; tall_is = refl; wide_is = refl; first_is = refl; weight_is = l.invariant.2 } in
-    let last_level : (let l = c.loop-left in let a) = c.args in Level a.height a.height a.width l.weight 0 a.coverings.now l.numerators = let l = c.loop-left in turn_level c.requires.1.0 last l.numerators l.invariant.3 l.invariant.5 in
-    let i = m.before.before.before in
+    let last : (let l = c.loop-left in let a = c.args in Turn a.levels a.height a.width l.left a.height a.width 0 l.weight 0) = let l = c.loop-left in record { is = omega arith; within = l.invariant.0; tall_is = refl; wide_is = refl; first_is = refl; weight_is = l.invariant.2 } in
+    let last_level : (let l = c.loop-left in let a = c.args in Level a.height a.height a.width l.weight 0 a.coverings.now l.numerators) = let l = c.loop-left in turn_level c.requires.mergeable last l.numerators l.invariant.3 l.invariant.5 in
     let l = c.loop-left in
     let a = c.args in
     let values : ℕ → ℕ → List ℤ = merged_block a.height a.height a.width l.weight (after 0 (listed a.coverings.now)) l.numerators in
     let columns = put_columns a.height values (a.height / 4) (a.width / 4) l.scratch in
-    let q : a.levels - 0 ≡ a.levels = omega arith in record { numerators_after = reach_all c.requires.1.0 _ (ap length c.rise-2.ensures.numerators_after ∙ length_rectangles columns a.height a.height last_level.inside l.numerators a.width ∙ l.invariant.3)
+    let q : a.levels - 0 ≡ a.levels = omega arith in record { numerators_after = reach_all c.requires.mergeable _ (ap length c.rise-2.ensures.numerators_after ∙ length_rectangles columns a.height a.height last_level.inside l.numerators a.width ∙ l.invariant.3)
           (subst⁻¹ (λ (x : List ℤ). Reached a.height a.width 0 a.levels a.coverings.now (image_of a.height a.numerators.now) (image_of a.height x)) c.rise-2.ensures.numerators_after
           (subst (λ (k : ℕ). Reached a.height a.width 0 k a.coverings.now (image_of a.height a.numerators.now) (image_of a.height (rectangles a.height a.height a.width columns l.numerators))) q
-          (turn_reached c.requires.1.0 last l.numerators l.invariant.3 l.invariant.5 l.scratch l.invariant.4))); scratch_after = c.clear.ensures
+          (turn_reached c.requires.mergeable last l.numerators l.invariant.3 l.invariant.5 l.scratch l.invariant.4))); scratch_after = c.clear.ensures
           ∙ ap (λ (n : ℕ). replicate n (pos 0)) (ap length c.rise-2.ensures.scratch_after ∙ columns_length a.height values (a.height / 4) (a.width / 4) l.scratch (omega (arith, last_level.inside)) ∙ l.invariant.4) }
