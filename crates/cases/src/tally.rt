@@ -1,6 +1,7 @@
 // What is counted of a group, how two answers are compared, and the line that tells a group.
 use crate::inputs::Case;
 use crate::safe::{byte_at, minus, plus, sample_at, value_at};
+use std::io;
 
 // The cases of a group, those that both accept, and those on which the two differ; and of the cases and of the accepted ones how many were strips: pictures
 // whose height is not their width.
@@ -129,34 +130,32 @@ pub fn same_samples(a: &[u16], b: &[u16]) -> bool {
     true
 }
 
-fn tell_count(before: &[u8], count: usize) {
-    io::write_all(1, before);
-    io::print_decimal(1, count as u64);
+fn tell_count(rt: &impl Print, before: &str, count: usize) -> io::Result<()> {
+    print!(rt; "{before}{count}")
 }
 
-fn tell_end(differing: usize) {
+fn tell_end(rt: &impl Print, differing: usize) -> io::Result<()> {
     if differing == 0 {
-        io::write_all(1, b" ok\n");
-        return;
+        return println!(rt; " ok");
     }
-    tell_count(b" differs ", differing);
-    io::write_all(1, b"\n");
+    tell_count(rt, " differs ", differing)?;
+    print!(rt; "\n")
 }
 
 // Prints the line of a group without heights and widths: its name, how many cases, how many of them both accept, and whether the two agree everywhere.
-pub fn tell_list(name: &[u8], t: Tally) {
-    io::write_all(1, name);
-    tell_count(b" ", t.cases);
-    tell_count(b" accepted ", t.accepted);
-    tell_end(t.differing);
+pub fn tell_list(rt: &impl Print, name: &str, t: Tally) -> io::Result<()> {
+    print!(rt; "{name}")?;
+    tell_count(rt, " ", t.cases)?;
+    tell_count(rt, " accepted ", t.accepted)?;
+    tell_end(rt, t.differing)
 }
 
 // The same for a group of pictures or planes, and how many of the cases and of the accepted ones were strips.
-pub fn tell(name: &[u8], t: Tally) {
-    io::write_all(1, name);
-    tell_count(b" ", t.cases);
-    tell_count(b" accepted ", t.accepted);
-    tell_count(b", strips ", t.strips);
-    tell_count(b" accepted ", t.accepted_strips);
-    tell_end(t.differing);
+pub fn tell(rt: &impl Print, name: &str, t: Tally) -> io::Result<()> {
+    print!(rt; "{name}")?;
+    tell_count(rt, " ", t.cases)?;
+    tell_count(rt, " accepted ", t.accepted)?;
+    tell_count(rt, ", strips ", t.strips)?;
+    tell_count(rt, " accepted ", t.accepted_strips)?;
+    tell_end(rt, t.differing)
 }

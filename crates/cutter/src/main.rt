@@ -1,6 +1,8 @@
 // The cutter: reads standard input and prints its answer. All of it is `intake::run`.
 #![tactic(auto)]
 
-fn main() {
-    intake::run();
+use std::io;
+
+fn main(rt: HostRuntime) -> io::Result<()> {
+    intake::run(&mut rt.stdin(), &mut rt.stdout())
 }

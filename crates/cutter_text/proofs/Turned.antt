@@ -1,7 +1,7 @@
 -- Rows stored in turn are the picture, down columns. Assumes nothing.
 use mathlib.Core.Path.{◌≡◌, refl, sym, ap, ◌∙◌}
 use mathlib.Core.List.{List, [], ◌∷◌, map}
-use Prim.Native.Nat.{ℕ, zero, suc, ◌+◌, ◌*◌, ◌-◌, ◌/◌, ◌%◌, ◌<◌, ◌≤◌}
+use Prim.Native.Nat.{ℕ, zero, suc, ◌+◌, ◌*◌, ◌/◌, ◌%◌, ◌<◌, ◌≤◌}
 use native.Mathlib.Omega.{arith}
 use native.Mathlib.Nat.{div-add-mod'}
 use lib.IntN.{ℤ, pos, nat_abs}
@@ -18,6 +18,8 @@ use Rattle.cutter_text.specs.Rows.{held_to, row_in, rows_in}
 pub fits_length : (w : ℕ) (r : List ℤ) → FitsRow (plains w) r → length r ≡ w
 unfolding FitsRow
 fits_length zero [] f = refl
+fits_length zero (v ∷ vs) f = absurd f
+fits_length (suc w) [] f = absurd f
 fits_length (suc w) (v ∷ vs) f = ap suc (fits_length w vs f.1)
 
 pub fits_at : (w : ℕ) (rs : List (List ℤ)) → FitsRows (plains w) rs → (i : ℕ) → i < length rs → length (get_or rs i []) ≡ w

@@ -1,2 +1,3 @@
 mod Parts
+mod Given
 mod Whole

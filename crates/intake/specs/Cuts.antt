@@ -15,3 +15,12 @@ CutOf text old new size Broken = (size ≡ 0) × (new ≡ old)
 pub record CutInput (text old new : List ℕ) (r : Cut) : Type 0 where
   pub cut : CutOf text old new r.size r.input
   pub within : r.size ≤ length new
+
+-- Where all bytes of the input are known: what is printed is the answer for them, but where a read failed.
+abbrev pub WholeOf : List ℕ → List ℕ → List ℕ → ℕ → Input → Type 0
+WholeOf all old new size (Ended n) = Printed (cutter_text all) old new size
+WholeOf all old new size (Full n) = Printed (cutter_text all) old new size
+WholeOf all old new size Broken = Unit {0}
+
+abbrev pub CutWhole : List ℕ → List ℕ → List ℕ → Cut → Type 0
+CutWhole all old new r = WholeOf all old new r.size r.input

@@ -1,13 +1,16 @@
-// The cutter from standard input to standard output. This crate owns the buffers, the reading and the body of the program; the programs over it are one
-// call of `run`. The contracts say how much of the input is looked at and what is printed for it. Which bytes a read of the system puts into the buffer, and
-// which a write takes out, no contract can say: those calls are C's, and their contracts speak of counts alone. The stored runs of the programs show it.
+// The cutter from a reader to a writer. This crate owns the buffers, the reading and the body of the program; the programs over it are one call of `run` with
+// standard input and standard output. The contracts say how much of the input is looked at and what is printed for it, and that it is the reader's whole
+// input, where its bytes are known. Which bytes standard input gives no contract can say. The stored runs of the programs show it.
 #![tactic(auto)]
 
-ghost use Rattle.std.specs.Prelude.{◌≡◌, suc, ◌≤◌, length, take};
+ghost use Rattle.std.specs.Prelude.{◌≡◌, suc, ◌≤◌, length, take, OnOk, IfSome};
+ghost use Rattle.std.specs.Io.KnownBytes.{Appends};
 ghost use Rattle.cutting.specs.Cutter.{input_limit, cutter_text, Printed};
-ghost use Rattle.intake.specs.Cuts.{CutInput};
+ghost use Rattle.intake.specs.Cuts.{CutInput, CutWhole};
 
 use reading::Input;
+use std::io;
+use std::io::{Read, Write};
 
 pub mod reading;
 
@@ -37,10 +40,11 @@ fn cut_first(text: &[u8], n: usize, out: &mut [u8; 65536]) -> usize
 // Reads the input into `text`, and puts what the cutter prints at the front of `out`. Where the buffer is full that holds whatever follows in the input, which
 // needs a byte more than an input may have. Two wrong answers that the contract rules out: what is right for the first 65,536 bytes of an input that has
 // more; and a sheet of the part that had come when a read failed.
-pub fn cut_input(text: &mut [u8; 65537], out: &mut [u8; 65536]) -> Cut
-    ensures { CutInput text.new out.old out.new result }
+pub fn cut_input<R: Read>(reader: &mut R, text: &mut [u8; 65537], out: &mut [u8; 65536]) -> Cut
+    ensures cut { CutInput text.new out.old out.new result }
+    ensures whole { IfSome (R.remaining reader.old) (λ all. CutWhole all out.old out.new result) }
 {
-    let input = reading::read_input(text, 0);
+    let input = reading::read_input(reader, text, 0);
     match input {
         Input::Ended(n) => Cut {
             input,
@@ -54,11 +58,16 @@ pub fn cut_input(text: &mut [u8; 65537], out: &mut [u8; 65536]) -> Cut
     }
 }
 
-// The program: cuts standard input and writes what is printed. Where a read fails nothing is written.
-pub fn run() {
+// The program: cuts the reader's input and writes what is printed. Where a read fails nothing is written, and the answer is an error.
+pub fn run<R: Read, W: Write>(reader: &mut R, writer: &mut W) -> io::Result<()>
+    ensures { OnOk result (IfSome (R.remaining reader.old) (λ all. Appends (W.contents writer.old) (W.contents writer.new) (cutter_text all))) }
+{
     let mut text = input_buffer();
-    let mut out = io::large_buffer();
-    let cut = cut_input(&mut text, &mut out);
-    let size = cut.size;
-    io::write_all(1, &out[..size]);
+    let mut out = [0; 65536];
+    let cut = cut_input(reader, &mut text, &mut out);
+    let Input::Broken = cut.input else {
+        let size = cut.size;
+        return writer.write_all(&out[..size]);
+    };
+    Err(io::Error::other("the input could not be read"))
 }

@@ -1,7 +1,9 @@
-// Reading standard input to its end, part by part, each behind the bytes that are there. That a read was made, and which bytes it put there, no contract
-// can say.
+// Reading an input to its end, part by part, each behind the bytes that are there. Where the bytes are known that a reader has left, as of a slice, the
+// contracts say that these are the bytes that came. Of standard input no contract can say it.
 ghost use Rattle.std.specs.Prelude.{◌<◌, ◌≤◌, length};
-ghost use Rattle.intake.specs.Reading.{PartRead, InputRead};
+ghost use Rattle.intake.specs.Reading.{PartRead, PartGiven, InputRead, InputGiven};
+
+use std::io::Read;
 
 // What one read gave.
 #[derive(Drop)]
@@ -39,19 +41,19 @@ fn part_end(text: &[u8], done: usize) -> usize
 }
 
 // One read behind the first `done` bytes of `text`, which stay as they are. It tells the place past what came, so that whoever reads on reads from there.
-// Two wrong answers that the contract rules out: bytes put over those that are there; and a place past the end of the buffer.
-pub fn read_part(text: &mut [u8], done: usize) -> Part
-    ensures { PartRead done text.old text.new result }
+// Three wrong answers that the contract rules out: bytes put over those that are there; a place past the end of the buffer; and an end where bytes are left.
+pub fn read_part<R: Read>(reader: &mut R, text: &mut [u8], done: usize) -> Part
+    ensures part { PartRead done text.old text.new result }
+    ensures given { PartGiven done (R.remaining reader.old) (R.remaining reader.new) text.new result }
 {
     if text.len() <= done {
         return Part::Full;
     }
     let end = part_end(text, done);
-    let got = libc::read(0, &mut text[done..end]);
-    if got < 0 {
+    let got = reader.read(&mut text[done..end]);
+    let Ok(more) = got else {
         return Part::Broken;
-    }
-    let more = io::count(got, &text[done..end]);
+    };
     if more == 0 {
         return Part::End;
     }
@@ -59,14 +61,15 @@ pub fn read_part(text: &mut [u8], done: usize) -> Part
 }
 
 // Reads behind the first `start` bytes of `text` until the input ends or the buffer is full. Each part goes behind the one before it: only then is the place
-// that `read_part` tells further on, and the loop shown to end. Two wrong answers that the contract rules out: a part put over the bytes that were there
-// before the call; and `Full` with fewer bytes than the buffer has. No contract can say that `Ended` comes of a read that found the end.
-pub fn read_input(text: &mut [u8], start: usize) -> Input
-    ensures { InputRead start text.old text.new result }
+// that `read_part` tells further on, and the loop shown to end. Three wrong answers that the contract rules out: a part put over the bytes that were there
+// before the call; `Full` with fewer bytes than the buffer has; and `Ended` where the reader has bytes left, if they are known.
+pub fn read_input<R: Read>(reader: &mut R, text: &mut [u8], start: usize) -> Input
+    ensures input { InputRead start text.old text.new result }
+    ensures given { InputGiven start (R.remaining reader.old) (R.remaining reader.new) text.new result }
 {
     let mut done = start;
     loop {
-        let part = read_part(text, done);
+        let part = read_part(reader, text, done);
         match part {
             Part::To(next) => done = next,
             Part::End => return Input::Ended(done),

@@ -3,43 +3,44 @@
 #![tactic(auto)]
 
 use refusals::Answer;
+use std::io;
 
 fn digit(x: u8) -> u8 {
     b'0' + x % 10
 }
 
 // The number of an answer, 0 where it is accepted.
-fn show(a: Answer) {
+fn show(rt: &impl Print, a: Answer) -> io::Result<()> {
     let number = match a {
         Answer::Done => 0,
         Answer::Refused(r) => refusals::number(r),
     };
     let line = [digit(number), b'\n'];
-    io::write_all(1, &line);
+    rt.write_all(&line)
 }
 
-fn show_word(covering: u8) {
+fn show_word(rt: &impl Print, covering: u8) -> io::Result<()> {
     let mut word = [9u8; 16];
     coverings::word_of(covering, &mut word);
     let mut i: usize = 0;
     while i < 16 {
         let cell = [digit(word[i])];
-        io::write_all(1, &cell);
+        rt.write_all(&cell)?;
         i += 1;
     }
-    io::write_all(1, b"\n");
+    print!(rt; "\n")
 }
 
-fn main() {
+fn main(rt: HostRuntime) -> io::Result<()> {
     let mut n: u8 = 1;
     while n <= 117 {
-        show_word(n);
+        show_word(&rt, n)?;
         n += 1;
     }
     let mut word = [9u8; 16];
-    show(coverings::word_of(0, &mut word));
-    show(coverings::word_of(118, &mut word));
+    show(&rt, coverings::word_of(0, &mut word))?;
+    show(&rt, coverings::word_of(118, &mut word))?;
     let mut short = [9u8; 15];
-    show(coverings::word_of(0, &mut short));
-    show(coverings::word_of(117, &mut word));
+    show(&rt, coverings::word_of(0, &mut short))?;
+    show(&rt, coverings::word_of(117, &mut word))
 }

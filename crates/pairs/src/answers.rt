@@ -3,6 +3,7 @@
 use cases::answers::settled;
 use cases::tally::Verdict;
 use plain_frame::outcome::Outcome;
+use std::io;
 
 // Both answers, and whether the slices hold the same after both calls.
 #[derive(Drop)]
@@ -33,43 +34,36 @@ fn agree(p: Pair) -> bool {
 }
 
 // A part of what was asked: a name and its number.
-pub fn put(name: &[u8], n: u64) {
-    io::write_all(1, name);
-    io::print_decimal(1, n);
-    io::write_all(1, b" ");
+pub fn put(rt: &impl Print, name: &str, n: u64) -> io::Result<()> {
+    print!(rt; "{name}{n} ")
 }
 
-pub fn put_signed(name: &[u8], v: i64) {
-    io::write_all(1, name);
-    if v < 0 {
-        io::write_all(1, b"-");
-    }
-    put(b"", plain_frame::safe::size(v));
+pub fn put_signed(rt: &impl Print, name: &str, v: i64) -> io::Result<()> {
+    print!(rt; "{name}{v} ")
 }
 
 // Tells the answers of an entry; gives whether they agree, and those before them in the line did.
-pub fn tell(before: bool, entry: &[u8], p: Pair) -> bool {
-    io::write_all(1, entry);
-    put(b": ", p.coder.refusal as u64);
-    put(b"", p.plain.refusal as u64);
-    before && agree(p)
+pub fn tell(rt: &impl Print, before: bool, entry: &str, p: Pair) -> io::Result<bool> {
+    print!(rt; "{entry}")?;
+    put(rt, ": ", p.coder.refusal as u64)?;
+    put(rt, "", p.plain.refusal as u64)?;
+    Ok(before && agree(p))
 }
 
-pub fn end(agreed: bool) {
+pub fn end(rt: &impl Print, agreed: bool) -> io::Result<()> {
     if agreed {
-        io::write_all(1, b"agree\n");
+        println!(rt; "agree")
     } else {
-        io::write_all(1, b"differ\n");
+        println!(rt; "differ")
     }
 }
 
 // The end of a line with one entry.
-pub fn tell_one(entry: &[u8], p: Pair) {
-    end(tell(true, entry, p));
+pub fn tell_one(rt: &impl Print, entry: &str, p: Pair) -> io::Result<()> {
+    end(rt, tell(rt, true, entry, p)?)
 }
 
 // The line above those of one refusal.
-pub fn heading(name: &[u8]) {
-    io::write_all(1, name);
-    io::write_all(1, b"\n");
+pub fn heading(rt: &impl Print, name: &str) -> io::Result<()> {
+    println!(rt; "{name}")
 }

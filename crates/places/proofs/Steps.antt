@@ -5,12 +5,11 @@ use mathlib.Core.List.{List, [], ◌∷◌, ◌++◌}
 use Prim.Native.Nat.{ℕ, zero, suc, ◌+◌, ◌*◌, ◌-◌, ◌/◌, ◌%◌, ◌^◌, ◌<◌, ◌≤◌}
 use native.Mathlib.Nat.{pow-succ', pow-le-pow_right}
 use native.Mathlib.Omega.{arith}
-use lib.ListN.{length, get_or, drop, drop_of_length-le}
+use lib.ListN.{length, drop, drop_of_length-le}
 use lib.Seq.{drop-cons}
-use Rattle.integers.specs.Lists.{tabulate}
 use Rattle.integers.proofs.Index.{index_bound, column_row, column_col}
 use Rattle.integers.proofs.Tabulate.{length_tabulate, get_d_tabulate}
-use Rattle.pyramid.specs.Places.{Place, BlockPlace, places_from, blocks_from, plane_places, tetrolet_places, block_places}
+use Rattle.pyramid.specs.Places.{places_from, blocks_from, plane_places, tetrolet_places, block_places}
 use Rattle.pyramid.specs.Plane.{Fits}
 use Rattle.pyramid.specs.Sides.{Side}
 use Rattle.places.proofs.Sides.{Passed}

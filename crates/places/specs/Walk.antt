@@ -1,6 +1,6 @@
 -- A walk along the cells of bands, level by level, band by band, down columns: the entries of a plane in plane order, or the blocks in covering order.
 -- `left_in f w` is what a walk has before it, its present cell first, where f makes an entry or a block of a cell. Assumes nothing.
-use Rattle.std.specs.Prelude.{◌≡◌, List, [], ◌∷◌, ◌++◌, ℕ, zero, suc, ◌+◌, ◌*◌, ◌-◌, ◌/◌, ◌%◌, ◌^◌, ◌<◌, ◌≤◌, cond, ℤ, drop}
+use Rattle.std.specs.Prelude.{◌≡◌, List, [], ◌∷◌, ◌++◌, ℕ, zero, suc, ◌+◌, ◌*◌, ◌-◌, ◌/◌, ◌%◌, ◌^◌, ◌<◌, ◌≤◌, drop}
 use Rattle.integers.specs.Lists.{tabulate}
 use Rattle.pyramid.specs.Places.{Place, BlockPlace}
 use Rattle.places.specs.declared.walk.Walk.{Walk}

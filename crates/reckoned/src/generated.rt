@@ -3,6 +3,7 @@ use cases::safe::sample_at;
 use cases::tally::same_samples;
 use pairs::answers::{Pair, numbered, put, tell_one};
 use pairs::front;
+use std::io;
 
 // Both write into n places. There is room for 512 by 512, and one place more.
 fn both(height: usize, width: usize, start: u32, n: usize) -> Pair {
@@ -22,52 +23,51 @@ fn both(height: usize, width: usize, start: u32, n: usize) -> Pair {
     }
 }
 
-fn image(height: usize, width: usize, start: u32, n: usize) {
-    put(b"height ", height as u64);
-    put(b"width ", width as u64);
-    put(b"start ", start as u64);
-    put(b"samples ", n as u64);
-    tell_one(b"test image", both(height, width, start, n));
+fn image(rt: &impl Print, height: usize, width: usize, start: u32, n: usize) -> io::Result<()> {
+    put(rt, "height ", height as u64)?;
+    put(rt, "width ", width as u64)?;
+    put(rt, "start ", start as u64)?;
+    put(rt, "samples ", n as u64)?;
+    tell_one(rt, "test image", both(height, width, start, n))
 }
 
 // Document 02, wish 4: "From 0 the first sample is 966."
-pub fn first() {
-    image(4, 4, 0, 16);
+pub fn first(rt: &impl Print) -> io::Result<()> {
+    image(rt, 4, 4, 0, 16)?;
     let mut samples = [9u16; 16];
     generator::test_image(4, 4, 0, &mut samples);
-    io::write_all(1, b"first sample from 0: ");
-    io::print_decimal(1, sample_at(&samples, 0) as u64);
-    io::write_all(1, b"\n");
+    let sample = sample_at(&samples, 0);
+    println!(rt; "first sample from 0: {sample}")
 }
 
 // Heights and widths, each with what lies past it. A good one with too few samples is 3, so that it has passed 1; a bad one with too few is 1.
-pub fn sides() {
-    image(2, 4, 0, 8);
-    image(4, 2, 0, 8);
-    image(6, 4, 0, 24);
-    image(4, 6, 0, 0);
-    image(512, 4, 0, 16);
-    image(4, 512, 0, 16);
-    image(1024, 4, 0, 16);
-    image(4, 1024, 0, 16);
-    image(4294967300, 4, 0, 16);
-    image(4, 4294967300, 0, 16);
+pub fn sides(rt: &impl Print) -> io::Result<()> {
+    image(rt, 2, 4, 0, 8)?;
+    image(rt, 4, 2, 0, 8)?;
+    image(rt, 6, 4, 0, 24)?;
+    image(rt, 4, 6, 0, 0)?;
+    image(rt, 512, 4, 0, 16)?;
+    image(rt, 4, 512, 0, 16)?;
+    image(rt, 1024, 4, 0, 16)?;
+    image(rt, 4, 1024, 0, 16)?;
+    image(rt, 4294967300, 4, 0, 16)?;
+    image(rt, 4, 4294967300, 0, 16)
 }
 
 // Samples as many as height times width, one less and one more; and the largest starts, which are as good as others.
-pub fn lengths() {
-    image(4, 4, 2147483647, 15);
-    image(4, 4, 2147483648, 16);
-    image(4, 4, 4294967295, 17);
-    image(4, 8, 1, 31);
-    image(4, 8, 4294967295, 32);
-    image(4, 8, 1, 33);
-    image(16, 4, 1, 16);
-    image(16, 4, 1, 64);
-    image(16, 4, 1, 65);
-    image(4, 512, 1, 2048);
-    image(512, 4, 1, 2048);
-    image(512, 512, 1, 262143);
-    image(512, 512, 1, 262144);
-    image(512, 512, 1, 262145);
+pub fn lengths(rt: &impl Print) -> io::Result<()> {
+    image(rt, 4, 4, 2147483647, 15)?;
+    image(rt, 4, 4, 2147483648, 16)?;
+    image(rt, 4, 4, 4294967295, 17)?;
+    image(rt, 4, 8, 1, 31)?;
+    image(rt, 4, 8, 4294967295, 32)?;
+    image(rt, 4, 8, 1, 33)?;
+    image(rt, 16, 4, 1, 16)?;
+    image(rt, 16, 4, 1, 64)?;
+    image(rt, 16, 4, 1, 65)?;
+    image(rt, 4, 512, 1, 2048)?;
+    image(rt, 512, 4, 1, 2048)?;
+    image(rt, 512, 512, 1, 262143)?;
+    image(rt, 512, 512, 1, 262144)?;
+    image(rt, 512, 512, 1, 262145)
 }

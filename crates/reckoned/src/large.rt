@@ -5,6 +5,7 @@ use cases::safe::put_value;
 use cases::tally::same_bytes;
 use pairs::answers::{Pair, put, put_signed, tell_one};
 use pairs::front;
+use std::io;
 
 // Both write the sheet, which has 220,723 bytes and the line of the value.
 fn both_write(plane: &[i64], coverings: &[u8]) -> Pair {
@@ -20,35 +21,36 @@ fn both_write(plane: &[i64], coverings: &[u8]) -> Pair {
 }
 
 // The sheet of a plane that holds one value among zeros, with so many coverings.
-fn write(at: usize, value: i64, coverings: usize) {
-    put(b"height ", 512);
-    put(b"width ", 512);
-    put(b"levels ", 8);
-    put(b"coverings ", coverings as u64);
-    put(b"place ", at as u64);
-    put_signed(b"value ", value);
+fn write(rt: &impl Print, at: usize, value: i64, coverings: usize) -> io::Result<()> {
+    put(rt, "height ", 512)?;
+    put(rt, "width ", 512)?;
+    put(rt, "levels ", 8)?;
+    put(rt, "coverings ", coverings as u64)?;
+    put(rt, "place ", at as u64)?;
+    put_signed(rt, "value ", value)?;
     let mut plane = [0i64; 262144];
     put_value(&mut plane, at, value);
     let covers = [1u8; 21846];
     tell_one(
-        b"write",
+        rt,
+        "write",
         both_write(&plane, front::bytes(&covers, coverings)),
-    );
+    )
 }
 
 // As many coverings as blocks, one less and one more.
-pub fn blocks() {
-    write(0, 0, 21844);
-    write(0, 0, 21845);
-    write(0, 0, 21846);
+pub fn blocks(rt: &impl Print) -> io::Result<()> {
+    write(rt, 0, 0, 21844)?;
+    write(rt, 0, 0, 21845)?;
+    write(rt, 0, 0, 21846)
 }
 
 // The ranges of the deepest level, at the first place of bands 0 and 1: low-pass to 4,095 times 65,536, W to 8,190 times 16,384.
-pub fn ranges() {
-    write(0, 268369920, 21845);
-    write(0, 268369921, 21845);
-    write(1024, 134184960, 21845);
-    write(1024, 134184961, 21845);
-    write(1024, -134184960, 21845);
-    write(1024, -134184961, 21845);
+pub fn ranges(rt: &impl Print) -> io::Result<()> {
+    write(rt, 0, 268369920, 21845)?;
+    write(rt, 0, 268369921, 21845)?;
+    write(rt, 1024, 134184960, 21845)?;
+    write(rt, 1024, 134184961, 21845)?;
+    write(rt, 1024, -134184960, 21845)?;
+    write(rt, 1024, -134184961, 21845)
 }

@@ -6,61 +6,70 @@ use pairs::answers::{Pair, end, numbered, put, put_signed, tell, tell_one};
 use pairs::front;
 use pairs::left::{Left, pair};
 use pairs::planes::{Plane, plane_of, zeros};
+use std::io;
 
-fn put_list(l: List) {
-    put(b"listed ", l.length as u64);
+fn put_list(rt: &impl Print, l: List) -> io::Result<()> {
+    put(rt, "listed ", l.length as u64)?;
     if 0 < l.length {
-        put(b"first ", l.first as u64);
+        put(rt, "first ", l.first as u64)?;
     }
     if 1 < l.length {
-        put(b"second ", l.second as u64);
+        put(rt, "second ", l.second as u64)?;
     }
+    Ok(())
 }
 
 // Both on a picture, and the covering of its last block.
-fn last(words: &[u8], k: Picture, tolerance: u64, l: List) {
-    put(b"height ", k.height as u64);
-    put(b"levels ", k.levels as u64);
-    put(b"tolerance ", tolerance);
-    put_list(l);
+fn last(rt: &impl Print, words: &[u8], k: Picture, tolerance: u64, l: List) -> io::Result<()> {
+    put(rt, "height ", k.height as u64)?;
+    put(rt, "levels ", k.levels as u64)?;
+    put(rt, "tolerance ", tolerance)?;
+    put_list(rt, l)?;
     let x = left_by(words, k, Way::CoderListed(tolerance), l);
     let y = left_by(words, k, Way::PlainListed(tolerance), l);
-    let agreed = tell(true, b"decompose", pair(x, y));
+    let agreed = tell(rt, true, "decompose", pair(x, y))?;
     let covering = byte_at(&x.coverings, minus(k.coverings, 1));
-    put(b"last covering ", covering as u64);
-    end(agreed);
+    put(rt, "last covering ", covering as u64)?;
+    end(rt, agreed)
 }
 
 // Rows 0, 10, 20, 30. Of all coverings 117 costs 0, and 70 costs 40; of 2 and 3 the second costs 160, and the first 60 more.
-fn block(words: &[u8], tolerance: u64, length: usize, first: u8, second: u8) {
+fn block(
+    rt: &impl Print,
+    words: &[u8],
+    tolerance: u64,
+    length: usize,
+    first: u8,
+    second: u8,
+) -> io::Result<()> {
     let l = List {
         length: length,
         first: first,
         second: second,
     };
-    last(words, stairs(), tolerance, l);
+    last(rt, words, stairs(), tolerance, l)
 }
 
 // Coverings 1 and 3. The blocks of level 1 are flat and take 1; at level 2 covering 3 costs 144 and 1 costs 288, and 50, which costs 0, is not listed.
-fn halves(words: &[u8], tolerance: u64) {
+fn halves(rt: &impl Print, words: &[u8], tolerance: u64) -> io::Result<()> {
     let l = List {
         length: 2,
         first: 1,
         second: 3,
     };
-    last(words, half(), tolerance, l);
+    last(rt, words, half(), tolerance, l)
 }
 
 // One covering; and the last tolerance with which a covering is too dear, which counts from the least of the list, and the first with which it is not.
-pub fn steps(words: &[u8]) {
-    block(words, 0, 1, 117, 0);
-    block(words, 0, 1, 1, 0);
-    block(words, 29, 2, 2, 3);
-    block(words, 30, 2, 2, 3);
-    block(words, 19, 117, 1, 2);
-    block(words, 20, 117, 1, 2);
-    halves(words, 35);
-    halves(words, 36);
+pub fn steps(rt: &impl Print, words: &[u8]) -> io::Result<()> {
+    block(rt, words, 0, 1, 117, 0)?;
+    block(rt, words, 0, 1, 1, 0)?;
+    block(rt, words, 29, 2, 2, 3)?;
+    block(rt, words, 30, 2, 2, 3)?;
+    block(rt, words, 19, 117, 1, 2)?;
+    block(rt, words, 20, 117, 1, 2)?;
+    halves(rt, words, 35)?;
+    halves(rt, words, 36)
 }
 
 fn decompose(words: &[u8], k: Picture, tolerance: u64, l: List) -> Pair {
@@ -144,37 +153,38 @@ fn flat(height: usize, levels: usize, samples: usize, sample: u16) -> Picture {
 }
 
 // Both entries with this list, where nothing else is refused: of a good list the first number is the block's covering.
-fn lend(words: &[u8], length: usize, first: u8, second: u8) {
+fn lend(rt: &impl Print, words: &[u8], length: usize, first: u8, second: u8) -> io::Result<()> {
     let l = List {
         length: length,
         first: first,
         second: second,
     };
-    put_list(l);
+    put_list(rt, l)?;
     let d = tell(
+        rt,
         true,
-        b"decompose",
+        "decompose",
         decompose(words, flat(4, 1, 16, 4095), 4095, l),
-    );
+    )?;
     let mut k = zeros(4, 4, 1, 16, 1);
     k.covering = first;
-    end(tell(d, b"restore", restore(words, k, l)));
+    end(rt, tell(rt, d, "restore", restore(words, k, l))?)
 }
 
 // Good lists of one number, of two and of all; and an empty one, a number twice, one that falls, 0, 118, 255, and more than 117 numbers.
-pub fn limits(words: &[u8]) {
-    lend(words, 1, 1, 0);
-    lend(words, 1, 117, 0);
-    lend(words, 2, 1, 117);
-    lend(words, 117, 1, 2);
-    lend(words, 0, 0, 0);
-    lend(words, 2, 2, 2);
-    lend(words, 2, 3, 2);
-    lend(words, 2, 0, 1);
-    lend(words, 2, 117, 118);
-    lend(words, 1, 255, 0);
-    lend(words, 118, 1, 2);
-    lend(words, 300, 1, 2);
+pub fn limits(rt: &impl Print, words: &[u8]) -> io::Result<()> {
+    lend(rt, words, 1, 1, 0)?;
+    lend(rt, words, 1, 117, 0)?;
+    lend(rt, words, 2, 1, 117)?;
+    lend(rt, words, 117, 1, 2)?;
+    lend(rt, words, 0, 0, 0)?;
+    lend(rt, words, 2, 2, 2)?;
+    lend(rt, words, 2, 3, 2)?;
+    lend(rt, words, 2, 0, 1)?;
+    lend(rt, words, 2, 117, 118)?;
+    lend(rt, words, 1, 255, 0)?;
+    lend(rt, words, 118, 1, 2)?;
+    lend(rt, words, 300, 1, 2)
 }
 
 // A list that falls.
@@ -187,35 +197,37 @@ fn falling() -> List {
 }
 
 fn decompose_falling(
+    rt: &impl Print,
     words: &[u8],
     height: usize,
     levels: usize,
     samples: usize,
     sample: u16,
     tolerance: u64,
-) {
-    put(b"height ", height as u64);
-    put(b"levels ", levels as u64);
-    put(b"samples ", samples as u64);
-    put(b"sample ", sample as u64);
-    put(b"tolerance ", tolerance);
+) -> io::Result<()> {
+    put(rt, "height ", height as u64)?;
+    put(rt, "levels ", levels as u64)?;
+    put(rt, "samples ", samples as u64)?;
+    put(rt, "sample ", sample as u64)?;
+    put(rt, "tolerance ", tolerance)?;
     let l = falling();
-    put_list(l);
+    put_list(rt, l)?;
     let k = flat(height, levels, samples, sample);
-    tell_one(b"decompose", decompose(words, k, tolerance, l));
+    tell_one(rt, "decompose", decompose(words, k, tolerance, l))
 }
 
 // Decomposing looks at the list last.
-pub fn decomposing(words: &[u8]) {
-    decompose_falling(words, 4, 1, 16, 4095, 4096);
-    decompose_falling(words, 4, 1, 16, 4096, 4096);
-    decompose_falling(words, 4, 1, 15, 4096, 4096);
-    decompose_falling(words, 4, 2, 15, 4096, 4096);
-    decompose_falling(words, 6, 2, 15, 4096, 4096);
+pub fn decomposing(rt: &impl Print, words: &[u8]) -> io::Result<()> {
+    decompose_falling(rt, words, 4, 1, 16, 4095, 4096)?;
+    decompose_falling(rt, words, 4, 1, 16, 4096, 4096)?;
+    decompose_falling(rt, words, 4, 1, 15, 4096, 4096)?;
+    decompose_falling(rt, words, 4, 2, 15, 4096, 4096)?;
+    decompose_falling(rt, words, 6, 2, 15, 4096, 4096)
 }
 
 // A plane of this height and of width 4 with one block, in slices of this length.
 fn restore_plane(
+    rt: &impl Print,
     words: &[u8],
     height: usize,
     levels: usize,
@@ -223,45 +235,45 @@ fn restore_plane(
     covering: u8,
     value: i64,
     l: List,
-) {
-    put(b"height ", height as u64);
-    put(b"levels ", levels as u64);
-    put(b"plane ", plane as u64);
-    put(b"covering ", covering as u64);
-    put_signed(b"value ", value);
-    put_list(l);
+) -> io::Result<()> {
+    put(rt, "height ", height as u64)?;
+    put(rt, "levels ", levels as u64)?;
+    put(rt, "plane ", plane as u64)?;
+    put(rt, "covering ", covering as u64)?;
+    put_signed(rt, "value ", value)?;
+    put_list(rt, l)?;
     let mut k = zeros(height, 4, levels, plane, 1);
     k.covering = covering;
     k.value = value;
-    tell_one(b"restore", restore(words, k, l));
+    tell_one(rt, "restore", restore(words, k, l))
 }
 
 // Restoring looks at the list before it looks at what plane and coverings hold. Of the list that falls covering 3 is missing.
-pub fn restoring(words: &[u8]) {
+pub fn restoring(rt: &impl Print, words: &[u8]) -> io::Result<()> {
     let l = falling();
-    restore_plane(words, 4, 1, 16, 3, 0, l);
-    restore_plane(words, 4, 1, 16, 0, 0, l);
-    restore_plane(words, 4, 1, 16, 1, -1, l);
-    restore_plane(words, 4, 1, 15, 0, -1, l);
-    restore_plane(words, 4, 2, 15, 0, -1, l);
-    restore_plane(words, 6, 2, 15, 0, -1, l);
+    restore_plane(rt, words, 4, 1, 16, 3, 0, l)?;
+    restore_plane(rt, words, 4, 1, 16, 0, 0, l)?;
+    restore_plane(rt, words, 4, 1, 16, 1, -1, l)?;
+    restore_plane(rt, words, 4, 1, 15, 0, -1, l)?;
+    restore_plane(rt, words, 4, 2, 15, 0, -1, l)?;
+    restore_plane(rt, words, 6, 2, 15, 0, -1, l)
 }
 
 // With a good list and a value out of its range: a covering that is none, one that is missing, and one that is not. With a value in its range: one that is
 // missing, and the list's first and last.
-pub fn missing(words: &[u8]) {
+pub fn missing(rt: &impl Print, words: &[u8]) -> io::Result<()> {
     let l = List {
         length: 2,
         first: 2,
         second: 116,
     };
-    restore_plane(words, 4, 1, 16, 0, -1, l);
-    restore_plane(words, 4, 1, 16, 118, -1, l);
-    restore_plane(words, 4, 1, 16, 1, -1, l);
-    restore_plane(words, 4, 1, 16, 117, -1, l);
-    restore_plane(words, 4, 1, 16, 2, -1, l);
-    restore_plane(words, 4, 1, 16, 117, 4095, l);
-    restore_plane(words, 4, 1, 16, 3, 4095, l);
-    restore_plane(words, 4, 1, 16, 2, 4095, l);
-    restore_plane(words, 4, 1, 16, 116, 4095, l);
+    restore_plane(rt, words, 4, 1, 16, 0, -1, l)?;
+    restore_plane(rt, words, 4, 1, 16, 118, -1, l)?;
+    restore_plane(rt, words, 4, 1, 16, 1, -1, l)?;
+    restore_plane(rt, words, 4, 1, 16, 117, -1, l)?;
+    restore_plane(rt, words, 4, 1, 16, 2, -1, l)?;
+    restore_plane(rt, words, 4, 1, 16, 117, 4095, l)?;
+    restore_plane(rt, words, 4, 1, 16, 3, 4095, l)?;
+    restore_plane(rt, words, 4, 1, 16, 2, 4095, l)?;
+    restore_plane(rt, words, 4, 1, 16, 116, 4095, l)
 }

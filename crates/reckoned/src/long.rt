@@ -3,6 +3,7 @@ use cases::answers::outcome;
 use cases::inputs::{case_of, fill_picture};
 use cases::tally::{same_bytes, same_samples, same_values};
 use pairs::answers::{Pair, end, numbered, put, tell, tell_one};
+use std::io;
 
 fn picture(height: usize, width: usize) -> [u16; 2048] {
     let mut samples = [0u16; 2048];
@@ -145,41 +146,49 @@ fn smooth(words: &[u8], height: usize, width: usize, plane: &[i64], coverings: &
     }
 }
 
-fn strip(words: &[u8], height: usize, width: usize) {
-    put(b"height ", height as u64);
-    put(b"width ", width as u64);
-    put(b"levels ", 1);
+fn strip(rt: &impl Print, words: &[u8], height: usize, width: usize) -> io::Result<()> {
+    put(rt, "height ", height as u64)?;
+    put(rt, "width ", width as u64)?;
+    put(rt, "levels ", 1)?;
     let mut plane = [0i64; 2048];
     let mut coverings = [0u8; 128];
     fill(height, width, &mut plane, &mut coverings);
-    let d = tell(true, b"decompose", decompose(words, height, width));
+    let d = tell(rt, true, "decompose", decompose(words, height, width))?;
     let r = tell(
+        rt,
         d,
-        b"restore",
+        "restore",
         restore(words, height, width, &plane, &coverings),
-    );
-    end(tell(r, b"write", write(height, width, &plane, &coverings)));
+    )?;
+    end(
+        rt,
+        tell(rt, r, "write", write(height, width, &plane, &coverings))?,
+    )
 }
 
-pub fn strips(words: &[u8]) {
-    strip(words, 4, 512);
-    strip(words, 512, 4);
+pub fn strips(rt: &impl Print, words: &[u8]) -> io::Result<()> {
+    strip(rt, words, 4, 512)?;
+    strip(rt, words, 512, 4)
 }
 
 // The largest step, of a picture of which 100 entries were kept.
-fn step(words: &[u8], height: usize, width: usize) {
-    put(b"height ", height as u64);
-    put(b"width ", width as u64);
-    put(b"kept ", 100);
-    put(b"step ", 255);
+fn step(rt: &impl Print, words: &[u8], height: usize, width: usize) -> io::Result<()> {
+    put(rt, "height ", height as u64)?;
+    put(rt, "width ", width as u64)?;
+    put(rt, "kept ", 100)?;
+    put(rt, "step ", 255)?;
     let mut plane = [0i64; 2048];
     let mut coverings = [0u8; 128];
     fill(height, width, &mut plane, &mut coverings);
     keeping::keep(height, width, 1, &mut plane, 100);
-    tell_one(b"smooth", smooth(words, height, width, &plane, &coverings));
+    tell_one(
+        rt,
+        "smooth",
+        smooth(words, height, width, &plane, &coverings),
+    )
 }
 
-pub fn steps(words: &[u8]) {
-    step(words, 4, 512);
-    step(words, 512, 4);
+pub fn steps(rt: &impl Print, words: &[u8]) -> io::Result<()> {
+    step(rt, words, 4, 512)?;
+    step(rt, words, 512, 4)
 }

@@ -7,6 +7,7 @@
 #![tactic(auto)]
 
 use pairs::answers::heading;
+use std::io;
 
 mod frames;
 mod generated;
@@ -20,99 +21,99 @@ mod tolerances;
 mod values;
 
 // The blocks of a picture are told by the number of coverings that its plane takes.
-fn examples(words: &[u8]) {
-    heading(b"examples");
-    frames::blocks(words);
-    large::blocks();
-    frames::frame(words, 6, 6, 1, 36, 1);
-    frames::frame(words, 1024, 1024, 1, 16, 1);
-    frames::frame(words, 4, 4, 2, 16, 1);
-    pictures::flat(words, 16, 16, 1, 16, 4096);
-    lists::word(words, 118, 16);
-    values::quota(4, 4, 1, 16, 12);
-    values::quota(4, 4, 1, 16, 13);
-    lists::usage_order();
-    pictures::ties(words);
-    generated::first();
-    tolerances::steps(words);
-    listed::steps(words);
-    smoothed::example(words);
+fn examples(rt: &impl Print, words: &[u8]) -> io::Result<()> {
+    heading(rt, "examples")?;
+    frames::blocks(rt, words)?;
+    large::blocks(rt)?;
+    frames::frame(rt, words, 6, 6, 1, 36, 1)?;
+    frames::frame(rt, words, 1024, 1024, 1, 16, 1)?;
+    frames::frame(rt, words, 4, 4, 2, 16, 1)?;
+    pictures::flat(rt, words, 16, 16, 1, 16, 4096)?;
+    lists::word(rt, words, 118, 16)?;
+    values::quota(rt, 4, 4, 1, 16, 12)?;
+    values::quota(rt, 4, 4, 1, 16, 13)?;
+    lists::usage_order(rt)?;
+    pictures::ties(rt, words)?;
+    generated::first(rt)?;
+    tolerances::steps(rt, words)?;
+    listed::steps(rt, words)?;
+    smoothed::example(rt, words)
 }
 
-fn frame(words: &[u8]) {
-    heading(b"1 side");
-    frames::sides(words);
-    frames::strips(words);
-    generated::sides();
-    heading(b"2 depth");
-    frames::depths(words);
-    frames::strip_depths(words);
-    long::strips(words);
+fn frame(rt: &impl Print, words: &[u8]) -> io::Result<()> {
+    heading(rt, "1 side")?;
+    frames::sides(rt, words)?;
+    frames::strips(rt, words)?;
+    generated::sides(rt)?;
+    heading(rt, "2 depth")?;
+    frames::depths(rt, words)?;
+    frames::strip_depths(rt, words)?;
+    long::strips(rt, words)
 }
 
-fn lengths(words: &[u8]) {
-    heading(b"3 frame");
-    pictures::frames(words);
-    frames::planes(words);
-    frames::strip_planes(words);
-    frames::strip_blocks(words);
-    frames::restored(words);
-    lists::places(words);
-    lists::usage_lengths();
-    generated::lengths();
-    smoothed::lengths(words);
+fn lengths(rt: &impl Print, words: &[u8]) -> io::Result<()> {
+    heading(rt, "3 frame")?;
+    pictures::frames(rt, words)?;
+    frames::planes(rt, words)?;
+    frames::strip_planes(rt, words)?;
+    frames::strip_blocks(rt, words)?;
+    frames::restored(rt, words)?;
+    lists::places(rt, words)?;
+    lists::usage_lengths(rt)?;
+    generated::lengths(rt)?;
+    smoothed::lengths(rt, words)
 }
 
-fn contents(words: &[u8]) {
-    heading(b"4 sample");
-    pictures::samples(words);
-    heading(b"5 tile");
-    values::coverings(words);
-    lists::coverings(words);
-    heading(b"6 coefficient");
-    values::shallow(words);
-    values::deep(words);
-    values::strips(words);
-    large::ranges();
+fn contents(rt: &impl Print, words: &[u8]) -> io::Result<()> {
+    heading(rt, "4 sample")?;
+    pictures::samples(rt, words)?;
+    heading(rt, "5 tile")?;
+    values::coverings(rt, words)?;
+    lists::coverings(rt, words)?;
+    heading(rt, "6 coefficient")?;
+    values::shallow(rt, words)?;
+    values::deep(rt, words)?;
+    values::strips(rt, words)?;
+    large::ranges(rt)
 }
 
-fn numbers() {
-    heading(b"7 quota");
-    values::quotas();
-    values::strip_quotas();
-    heading(b"8 threshold");
-    values::limits();
+fn numbers(rt: &impl Print) -> io::Result<()> {
+    heading(rt, "7 quota")?;
+    values::quotas(rt)?;
+    values::strip_quotas(rt)?;
+    heading(rt, "8 threshold")?;
+    values::limits(rt)
 }
 
-fn rooms() {
-    heading(b"10 tray");
-    values::rooms();
-    values::strip_rooms();
-    lists::usage_rooms();
+fn rooms(rt: &impl Print) -> io::Result<()> {
+    heading(rt, "10 tray")?;
+    values::rooms(rt)?;
+    values::strip_rooms(rt)?;
+    lists::usage_rooms(rt)
 }
 
-fn limits(words: &[u8]) {
-    heading(b"13 tolerance");
-    tolerances::limits(words);
-    heading(b"14 list");
-    listed::limits(words);
-    listed::decomposing(words);
-    listed::restoring(words);
-    heading(b"18 unlisted");
-    listed::missing(words);
-    heading(b"19 step");
-    smoothed::limits(words);
-    long::steps(words);
+fn limits(rt: &impl Print, words: &[u8]) -> io::Result<()> {
+    heading(rt, "13 tolerance")?;
+    tolerances::limits(rt, words)?;
+    heading(rt, "14 list")?;
+    listed::limits(rt, words)?;
+    listed::decomposing(rt, words)?;
+    listed::restoring(rt, words)?;
+    heading(rt, "18 unlisted")?;
+    listed::missing(rt, words)?;
+    heading(rt, "19 step")?;
+    smoothed::limits(rt, words)?;
+    long::steps(rt, words)
 }
 
-fn main() {
+fn main(rt: HostRuntime) -> io::Result<()> {
     let mut words = [0u8; 1872];
     plain::tiles::list_words(&mut words);
-    examples(&words);
-    frame(&words);
-    lengths(&words);
-    contents(&words);
-    numbers();
-    rooms();
-    limits(&words);
+    examples(&rt, &words)?;
+    frame(&rt, &words)?;
+    lengths(&rt, &words)?;
+    contents(&rt, &words)?;
+    numbers(&rt)?;
+    rooms(&rt)?;
+    limits(&rt, &words)
 }

@@ -6,6 +6,7 @@ use cases::safe::{put_byte, put_sample};
 use pairs::answers::{Pair, end, numbered, put, tell, tell_one};
 use pairs::front;
 use pairs::left::{Left, pair};
+use std::io;
 
 // A call: height, width and levels, the lengths of its slices, and the samples, of which the first are lent.
 #[derive(Clone, Copy)]
@@ -136,18 +137,19 @@ pub fn decompose_within(words: &[u8], k: Picture, tolerance: u64) -> Pair {
 
 // A picture of 4 by 4 and 1 level, in slices of these lengths, without a tolerance and with the largest.
 pub fn flat(
+    rt: &impl Print,
     words: &[u8],
     samples: usize,
     plane: usize,
     coverings: usize,
     scratch: usize,
     sample: u16,
-) {
-    put(b"samples ", samples as u64);
-    put(b"plane ", plane as u64);
-    put(b"coverings ", coverings as u64);
-    put(b"scratch ", scratch as u64);
-    put(b"sample ", sample as u64);
+) -> io::Result<()> {
+    put(rt, "samples ", samples as u64)?;
+    put(rt, "plane ", plane as u64)?;
+    put(rt, "coverings ", coverings as u64)?;
+    put(rt, "scratch ", scratch as u64)?;
+    put(rt, "sample ", sample as u64)?;
     let k = Picture {
         height: 4,
         width: 4,
@@ -158,17 +160,17 @@ pub fn flat(
         scratch: scratch,
         picture: [sample; 65],
     };
-    let d = tell(true, b"decompose", decompose(words, k));
-    end(tell(d, b"within", decompose_within(words, k, 4095)));
+    let d = tell(rt, true, "decompose", decompose(words, k))?;
+    end(rt, tell(rt, d, "within", decompose_within(words, k, 4095))?)
 }
 
 // Document 02, wish 5: a tie is settled by "how often a covering was chosen in all earlier blocks of the picture, level 1 first". The first two samples of the
 // first row are 1, all others 0. The first block takes covering 24; in the three others, which are flat, and at level 2, where one entry is not 0, all coverings
 // tie, and 24 has been chosen before.
-pub fn ties(words: &[u8]) {
-    put(b"height ", 8);
-    put(b"width ", 8);
-    put(b"levels ", 2);
+pub fn ties(rt: &impl Print, words: &[u8]) -> io::Result<()> {
+    put(rt, "height ", 8)?;
+    put(rt, "width ", 8)?;
+    put(rt, "levels ", 2)?;
     let mut picture = [0u16; 65];
     put_sample(&mut picture, 0, 1);
     put_sample(&mut picture, 8, 1);
@@ -182,28 +184,28 @@ pub fn ties(words: &[u8]) {
         scratch: 64,
         picture: picture,
     };
-    tell_one(b"decompose", decompose(words, k));
+    tell_one(rt, "decompose", decompose(words, k))?;
     let left = unlisted(words, k, Way::Coder);
     let mut buffer = [b'?'; 64];
     let list = outcome(sheet::usage(front::bytes(&left.coverings, 5), &mut buffer));
-    io::write_all(1, front::bytes(&buffer, list.a));
+    rt.write_all(front::bytes(&buffer, list.a))
 }
 
 // Every slice of its exact length, and each with one place less and one more.
-pub fn frames(words: &[u8]) {
-    flat(words, 16, 16, 1, 16, 0);
-    flat(words, 15, 16, 1, 16, 0);
-    flat(words, 17, 16, 1, 16, 0);
-    flat(words, 16, 15, 1, 16, 0);
-    flat(words, 16, 17, 1, 16, 0);
-    flat(words, 16, 16, 0, 16, 0);
-    flat(words, 16, 16, 2, 16, 0);
-    flat(words, 16, 16, 1, 15, 0);
-    flat(words, 16, 16, 1, 17, 0);
+pub fn frames(rt: &impl Print, words: &[u8]) -> io::Result<()> {
+    flat(rt, words, 16, 16, 1, 16, 0)?;
+    flat(rt, words, 15, 16, 1, 16, 0)?;
+    flat(rt, words, 17, 16, 1, 16, 0)?;
+    flat(rt, words, 16, 15, 1, 16, 0)?;
+    flat(rt, words, 16, 17, 1, 16, 0)?;
+    flat(rt, words, 16, 16, 0, 16, 0)?;
+    flat(rt, words, 16, 16, 2, 16, 0)?;
+    flat(rt, words, 16, 16, 1, 15, 0)?;
+    flat(rt, words, 16, 16, 1, 17, 0)
 }
 
-pub fn samples(words: &[u8]) {
-    flat(words, 16, 16, 1, 16, 4095);
-    flat(words, 16, 16, 1, 16, 4096);
-    flat(words, 16, 16, 1, 16, 65535);
+pub fn samples(rt: &impl Print, words: &[u8]) -> io::Result<()> {
+    flat(rt, words, 16, 16, 1, 16, 4095)?;
+    flat(rt, words, 16, 16, 1, 16, 4096)?;
+    flat(rt, words, 16, 16, 1, 16, 65535)
 }

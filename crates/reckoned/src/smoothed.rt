@@ -4,6 +4,7 @@ use pairs::answers::{Pair, end, numbered, put, put_signed, tell, tell_one};
 use pairs::front;
 use pairs::left::{Left, pair};
 use pairs::planes::{Plane, plane_of, zeros};
+use std::io;
 
 // A call: what is told of a plane, what it holds, the step, and the lengths of result and scratch.
 #[derive(Clone, Copy)]
@@ -92,51 +93,52 @@ pub fn smooth(words: &[u8], k: Plane, step: u64) -> Pair {
 }
 
 // The first four values, which are column 0 at height 4.
-fn put_column(values: &[i64]) {
-    put_signed(b"column 0 ", value_at(values, 0));
-    put_signed(b"", value_at(values, 1));
-    put_signed(b"", value_at(values, 2));
-    put_signed(b"", value_at(values, 3));
+fn put_column(rt: &impl Print, values: &[i64]) -> io::Result<()> {
+    put_signed(rt, "column 0 ", value_at(values, 0))?;
+    put_signed(rt, "", value_at(values, 1))?;
+    put_signed(rt, "", value_at(values, 2))?;
+    put_signed(rt, "", value_at(values, 3))
 }
 
 // Document 02, wish 11: "The result is 16 times Y minus p times G." 4 by 4 and 1 level, covering 1, whose piece 0 is column 0. Its low-pass and its W1 are 1, all
 // else is 0: its numerators are 2 2 0 0, the gradient there is 2 4 -2 0, of which W2 is -4 and W3 is 0. Low-pass and W1 are spared, and so G is -4 4 -4 4.
-pub fn example(words: &[u8]) {
-    put(b"height ", 4);
-    put(b"width ", 4);
-    put(b"levels ", 1);
-    put(b"step ", 3);
+pub fn example(rt: &impl Print, words: &[u8]) -> io::Result<()> {
+    put(rt, "height ", 4)?;
+    put(rt, "width ", 4)?;
+    put(rt, "levels ", 1)?;
+    put(rt, "step ", 3)?;
     let mut plane = [0i64; 65];
     put_value(&mut plane, 0, 1);
     put_value(&mut plane, 8, 1);
     let mut s = step_of(zeros(4, 4, 1, 16, 1), 3);
     s.plane = plane;
     let left = smoothed_by_coder(s);
-    let agreed = tell(true, b"smooth", both(words, s));
-    put_column(&left.values);
-    end(agreed);
+    let agreed = tell(rt, true, "smooth", both(words, s))?;
+    put_column(rt, &left.values)?;
+    end(rt, agreed)
 }
 
-fn filled(words: &[u8], res: usize, scratch: usize) {
-    put(b"result ", res as u64);
-    put(b"scratch ", scratch as u64);
+fn filled(rt: &impl Print, words: &[u8], res: usize, scratch: usize) -> io::Result<()> {
+    put(rt, "result ", res as u64)?;
+    put(rt, "scratch ", scratch as u64)?;
     let mut s = step_of(zeros(4, 4, 1, 16, 1), 1);
     s.result = res;
     s.scratch = scratch;
-    tell_one(b"smooth", both(words, s));
+    tell_one(rt, "smooth", both(words, s))
 }
 
 // The slices that a step fills, at 4 by 4: each of its exact length, one place less and one more.
-pub fn lengths(words: &[u8]) {
-    filled(words, 16, 16);
-    filled(words, 15, 16);
-    filled(words, 17, 16);
-    filled(words, 16, 15);
-    filled(words, 16, 17);
+pub fn lengths(rt: &impl Print, words: &[u8]) -> io::Result<()> {
+    filled(rt, words, 16, 16)?;
+    filled(rt, words, 15, 16)?;
+    filled(rt, words, 17, 16)?;
+    filled(rt, words, 16, 15)?;
+    filled(rt, words, 16, 17)
 }
 
 // A plane of this height and of width 4 with one block, in slices of this length.
 fn limit(
+    rt: &impl Print,
     words: &[u8],
     height: usize,
     levels: usize,
@@ -144,29 +146,29 @@ fn limit(
     covering: u8,
     value: i64,
     step: u64,
-) {
-    put(b"height ", height as u64);
-    put(b"levels ", levels as u64);
-    put(b"plane ", plane as u64);
-    put(b"covering ", covering as u64);
-    put_signed(b"value ", value);
-    put(b"step ", step);
+) -> io::Result<()> {
+    put(rt, "height ", height as u64)?;
+    put(rt, "levels ", levels as u64)?;
+    put(rt, "plane ", plane as u64)?;
+    put(rt, "covering ", covering as u64)?;
+    put_signed(rt, "value ", value)?;
+    put(rt, "step ", step)?;
     let mut k = zeros(height, 4, levels, plane, 1);
     k.covering = covering;
     k.value = value;
-    tell_one(b"smooth", smooth(words, k, step));
+    tell_one(rt, "smooth", smooth(words, k, step))
 }
 
 // Steps up to the largest number; and one past the limit in calls that are refused before for another reason.
-pub fn limits(words: &[u8]) {
-    limit(words, 4, 1, 16, 1, 1, 0);
-    limit(words, 4, 1, 16, 1, 1, 255);
-    limit(words, 4, 1, 16, 1, 1, 256);
-    limit(words, 4, 1, 16, 1, 1, 4294967296);
-    limit(words, 4, 1, 16, 1, 1, 18446744073709551615);
-    limit(words, 4, 1, 16, 1, -1, 256);
-    limit(words, 4, 1, 16, 118, -1, 256);
-    limit(words, 4, 1, 15, 118, -1, 256);
-    limit(words, 4, 2, 15, 118, -1, 256);
-    limit(words, 6, 2, 15, 118, -1, 256);
+pub fn limits(rt: &impl Print, words: &[u8]) -> io::Result<()> {
+    limit(rt, words, 4, 1, 16, 1, 1, 0)?;
+    limit(rt, words, 4, 1, 16, 1, 1, 255)?;
+    limit(rt, words, 4, 1, 16, 1, 1, 256)?;
+    limit(rt, words, 4, 1, 16, 1, 1, 4294967296)?;
+    limit(rt, words, 4, 1, 16, 1, 1, 18446744073709551615)?;
+    limit(rt, words, 4, 1, 16, 1, -1, 256)?;
+    limit(rt, words, 4, 1, 16, 118, -1, 256)?;
+    limit(rt, words, 4, 1, 15, 118, -1, 256)?;
+    limit(rt, words, 4, 2, 15, 118, -1, 256)?;
+    limit(rt, words, 6, 2, 15, 118, -1, 256)
 }

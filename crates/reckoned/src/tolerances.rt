@@ -4,6 +4,7 @@ use cases::safe::{byte_at, minus, over, put_sample, rest, times};
 use pairs::answers::{end, put, tell, tell_one};
 use pairs::front;
 use pairs::left::pair;
+use std::io;
 
 // Fills columns of this height: each `part` rows hold `step` more than those above them.
 fn rows(height: usize, part: usize, step: usize, samples: &mut [u16]) {
@@ -15,17 +16,17 @@ fn rows(height: usize, part: usize, step: usize, samples: &mut [u16]) {
 }
 
 // Both on a picture, and the covering of its last block.
-fn last(words: &[u8], k: Picture, tolerance: u64) {
-    put(b"height ", k.height as u64);
-    put(b"width ", k.width as u64);
-    put(b"levels ", k.levels as u64);
-    put(b"tolerance ", tolerance);
+fn last(rt: &impl Print, words: &[u8], k: Picture, tolerance: u64) -> io::Result<()> {
+    put(rt, "height ", k.height as u64)?;
+    put(rt, "width ", k.width as u64)?;
+    put(rt, "levels ", k.levels as u64)?;
+    put(rt, "tolerance ", tolerance)?;
     let x = unlisted(words, k, Way::CoderWithin(tolerance));
     let y = unlisted(words, k, Way::PlainWithin(tolerance));
-    let agreed = tell(true, b"within", pair(x, y));
+    let agreed = tell(rt, true, "within", pair(x, y))?;
     let covering = byte_at(&x.coverings, minus(k.coverings, 1));
-    put(b"last covering ", covering as u64);
-    end(agreed);
+    put(rt, "last covering ", covering as u64)?;
+    end(rt, agreed)
 }
 
 // Document 01's block with rows 0, 10, 20, 30. Covering 117 costs 0, 70 costs 40, 2 costs 220, 1 costs 240; a tolerance counts twice.
@@ -44,13 +45,13 @@ pub fn stairs() -> Picture {
     }
 }
 
-fn block(words: &[u8], tolerance: u64) {
-    last(words, stairs(), tolerance);
+fn block(rt: &impl Print, words: &[u8], tolerance: u64) -> io::Result<()> {
+    last(rt, words, stairs(), tolerance)
 }
 
 // The left block is the same, and takes covering 117 below a tolerance of 20. The right one is 0, but 9 in its upper left square: covering 48, which has that square,
 // costs 0, and 117 costs 36, but has been chosen before.
-fn strip(words: &[u8], tolerance: u64) {
+fn strip(rt: &impl Print, words: &[u8], tolerance: u64) -> io::Result<()> {
     let mut picture = [0u16; 65];
     rows(4, 1, 10, front::samples_mut(&mut picture, 16));
     put_sample(&mut picture, 16, 9);
@@ -67,7 +68,7 @@ fn strip(words: &[u8], tolerance: u64) {
         scratch: 32,
         picture: picture,
     };
-    last(words, k, tolerance);
+    last(rt, words, k, tolerance)
 }
 
 // The upper half is 0 and the lower 9. The blocks of level 1 are flat and take covering 1. At level 2, where a tolerance counts four times, covering 50 costs 0,
@@ -87,31 +88,39 @@ pub fn half() -> Picture {
     }
 }
 
-fn halves(words: &[u8], tolerance: u64) {
-    last(words, half(), tolerance);
+fn halves(rt: &impl Print, words: &[u8], tolerance: u64) -> io::Result<()> {
+    last(rt, words, half(), tolerance)
 }
 
 // The last tolerance with which a covering is too dear, and the first with which it is not.
-pub fn steps(words: &[u8]) {
-    block(words, 19);
-    block(words, 20);
-    block(words, 119);
-    block(words, 120);
-    strip(words, 17);
-    strip(words, 18);
-    halves(words, 35);
-    halves(words, 36);
-    halves(words, 71);
-    halves(words, 72);
+pub fn steps(rt: &impl Print, words: &[u8]) -> io::Result<()> {
+    block(rt, words, 19)?;
+    block(rt, words, 20)?;
+    block(rt, words, 119)?;
+    block(rt, words, 120)?;
+    strip(rt, words, 17)?;
+    strip(rt, words, 18)?;
+    halves(rt, words, 35)?;
+    halves(rt, words, 36)?;
+    halves(rt, words, 71)?;
+    halves(rt, words, 72)
 }
 
 // A flat picture of this height and of width 4, of which so many samples are lent; plane, coverings and scratch are those of 4 by 4 and 1 level.
-fn flat(words: &[u8], height: usize, levels: usize, samples: usize, sample: u16, tolerance: u64) {
-    put(b"height ", height as u64);
-    put(b"levels ", levels as u64);
-    put(b"samples ", samples as u64);
-    put(b"sample ", sample as u64);
-    put(b"tolerance ", tolerance);
+fn flat(
+    rt: &impl Print,
+    words: &[u8],
+    height: usize,
+    levels: usize,
+    samples: usize,
+    sample: u16,
+    tolerance: u64,
+) -> io::Result<()> {
+    put(rt, "height ", height as u64)?;
+    put(rt, "levels ", levels as u64)?;
+    put(rt, "samples ", samples as u64)?;
+    put(rt, "sample ", sample as u64)?;
+    put(rt, "tolerance ", tolerance)?;
     let k = Picture {
         height: height,
         width: 4,
@@ -122,18 +131,18 @@ fn flat(words: &[u8], height: usize, levels: usize, samples: usize, sample: u16,
         scratch: 16,
         picture: [sample; 65],
     };
-    tell_one(b"within", decompose_within(words, k, tolerance));
+    tell_one(rt, "within", decompose_within(words, k, tolerance))
 }
 
 // Tolerances up to the largest number; and one past the limit in calls that are refused before for another reason.
-pub fn limits(words: &[u8]) {
-    flat(words, 4, 1, 16, 4095, 0);
-    flat(words, 4, 1, 16, 4095, 4095);
-    flat(words, 4, 1, 16, 4095, 4096);
-    flat(words, 4, 1, 16, 4095, 4294967296);
-    flat(words, 4, 1, 16, 4095, 18446744073709551615);
-    flat(words, 4, 1, 16, 4096, 4096);
-    flat(words, 4, 1, 15, 4096, 4096);
-    flat(words, 4, 2, 15, 4096, 4096);
-    flat(words, 6, 2, 15, 4096, 4096);
+pub fn limits(rt: &impl Print, words: &[u8]) -> io::Result<()> {
+    flat(rt, words, 4, 1, 16, 4095, 0)?;
+    flat(rt, words, 4, 1, 16, 4095, 4095)?;
+    flat(rt, words, 4, 1, 16, 4095, 4096)?;
+    flat(rt, words, 4, 1, 16, 4095, 4294967296)?;
+    flat(rt, words, 4, 1, 16, 4095, 18446744073709551615)?;
+    flat(rt, words, 4, 1, 16, 4096, 4096)?;
+    flat(rt, words, 4, 1, 15, 4096, 4096)?;
+    flat(rt, words, 4, 2, 15, 4096, 4096)?;
+    flat(rt, words, 6, 2, 15, 4096, 4096)
 }

@@ -4,147 +4,172 @@ use pairs::answers::{put, put_signed, tell_one};
 use pairs::planes;
 use pairs::planes::{Plane, zeros};
 use plain_frame::safe::add;
+use std::io;
 
-fn covering(words: &[u8], covering: u8) {
-    put(b"covering ", covering as u64);
+fn covering(rt: &impl Print, words: &[u8], covering: u8) -> io::Result<()> {
+    put(rt, "covering ", covering as u64)?;
     let mut k = zeros(4, 4, 1, 16, 1);
     k.covering = covering;
-    tell_sheet(words, k);
+    tell_sheet(rt, words, k)
 }
 
-pub fn coverings(words: &[u8]) {
-    covering(words, 0);
-    covering(words, 1);
-    covering(words, 117);
-    covering(words, 118);
-    covering(words, 255);
+pub fn coverings(rt: &impl Print, words: &[u8]) -> io::Result<()> {
+    covering(rt, words, 0)?;
+    covering(rt, words, 1)?;
+    covering(rt, words, 117)?;
+    covering(rt, words, 118)?;
+    covering(rt, words, 255)
 }
 
 // A plane that holds the value at this place, among zeros.
-fn coefficient(words: &[u8], band: &[u8], frame: Plane, at: usize, value: i64) {
-    put_signed(band, value);
+fn coefficient(
+    rt: &impl Print,
+    words: &[u8],
+    band: &str,
+    frame: Plane,
+    at: usize,
+    value: i64,
+) -> io::Result<()> {
+    put_signed(rt, band, value)?;
     let mut k = frame;
     k.at = at;
     k.value = value;
-    tell_sheet(words, k);
+    tell_sheet(rt, words, k)
 }
 
 // The ends of a range, and one past each.
-fn range(words: &[u8], band: &[u8], frame: Plane, at: usize, least: i64, most: i64) {
-    coefficient(words, band, frame, at, add(least, -1));
-    coefficient(words, band, frame, at, least);
-    coefficient(words, band, frame, at, most);
-    coefficient(words, band, frame, at, add(most, 1));
+fn range(
+    rt: &impl Print,
+    words: &[u8],
+    band: &str,
+    frame: Plane,
+    at: usize,
+    least: i64,
+    most: i64,
+) -> io::Result<()> {
+    coefficient(rt, words, band, frame, at, add(least, -1))?;
+    coefficient(rt, words, band, frame, at, least)?;
+    coefficient(rt, words, band, frame, at, most)?;
+    coefficient(rt, words, band, frame, at, add(most, 1))
 }
 
 // 4 by 4 and 1 level: low-pass 0 to 4,095 times 4, W within 2 times 4,095. Planes are stored down columns, so the first entry of a band with row y and
 // column x in the plane stands at height times x plus y.
-pub fn shallow(words: &[u8]) {
+pub fn shallow(rt: &impl Print, words: &[u8]) -> io::Result<()> {
     let k = zeros(4, 4, 1, 16, 1);
-    range(words, b"4 by 4 low-pass ", k, 0, 0, 16380);
-    range(words, b"4 by 4 level 1 band 1 ", k, 8, -8190, 8190);
+    range(rt, words, "4 by 4 low-pass ", k, 0, 0, 16380)?;
+    range(rt, words, "4 by 4 level 1 band 1 ", k, 8, -8190, 8190)
 }
 
 // 8 by 8 and 2 levels: low-pass 0 to 4,095 times 16, W of level 2 within 8 times 4,095, of level 1 within 2 times 4,095.
-pub fn deep(words: &[u8]) {
+pub fn deep(rt: &impl Print, words: &[u8]) -> io::Result<()> {
     let k = zeros(8, 8, 2, 64, 5);
-    range(words, b"8 by 8 low-pass ", k, 0, 0, 65520);
-    range(words, b"8 by 8 level 2 band 1 ", k, 16, -32760, 32760);
-    range(words, b"8 by 8 level 2 band 2 ", k, 2, -32760, 32760);
-    range(words, b"8 by 8 level 2 band 3 ", k, 18, -32760, 32760);
-    range(words, b"8 by 8 level 1 band 1 ", k, 32, -8190, 8190);
-    range(words, b"8 by 8 level 1 band 2 ", k, 4, -8190, 8190);
-    range(words, b"8 by 8 level 1 band 3 ", k, 36, -8190, 8190);
+    range(rt, words, "8 by 8 low-pass ", k, 0, 0, 65520)?;
+    range(rt, words, "8 by 8 level 2 band 1 ", k, 16, -32760, 32760)?;
+    range(rt, words, "8 by 8 level 2 band 2 ", k, 2, -32760, 32760)?;
+    range(rt, words, "8 by 8 level 2 band 3 ", k, 18, -32760, 32760)?;
+    range(rt, words, "8 by 8 level 1 band 1 ", k, 32, -8190, 8190)?;
+    range(rt, words, "8 by 8 level 1 band 2 ", k, 4, -8190, 8190)?;
+    range(rt, words, "8 by 8 level 1 band 3 ", k, 36, -8190, 8190)
 }
 
 // Strips: the places that are in other bands when height and width are exchanged.
-pub fn strips(words: &[u8]) {
+pub fn strips(rt: &impl Print, words: &[u8]) -> io::Result<()> {
     let k = zeros(4, 8, 1, 32, 2);
-    range(words, b"4 by 8 low-pass ", k, 12, 0, 16380);
-    range(words, b"4 by 8 level 1 band 1 ", k, 16, -8190, 8190);
-    range(words, b"4 by 8 level 1 band 2 ", k, 2, -8190, 8190);
+    range(rt, words, "4 by 8 low-pass ", k, 12, 0, 16380)?;
+    range(rt, words, "4 by 8 level 1 band 1 ", k, 16, -8190, 8190)?;
+    range(rt, words, "4 by 8 level 1 band 2 ", k, 2, -8190, 8190)?;
     let q = zeros(8, 4, 1, 32, 2);
-    range(words, b"8 by 4 low-pass ", q, 2, 0, 16380);
-    range(words, b"8 by 4 level 1 band 2 ", q, 12, -8190, 8190);
-    range(words, b"8 by 4 level 1 band 3 ", q, 20, -8190, 8190);
+    range(rt, words, "8 by 4 low-pass ", q, 2, 0, 16380)?;
+    range(rt, words, "8 by 4 level 1 band 2 ", q, 12, -8190, 8190)?;
+    range(rt, words, "8 by 4 level 1 band 3 ", q, 20, -8190, 8190)
 }
 
-pub fn quota(height: usize, width: usize, levels: usize, plane: usize, quota: u64) {
-    put(b"height ", height as u64);
-    put(b"width ", width as u64);
-    put(b"levels ", levels as u64);
-    put(b"quota ", quota);
+pub fn quota(
+    rt: &impl Print,
+    height: usize,
+    width: usize,
+    levels: usize,
+    plane: usize,
+    quota: u64,
+) -> io::Result<()> {
+    put(rt, "height ", height as u64)?;
+    put(rt, "width ", width as u64)?;
+    put(rt, "levels ", levels as u64)?;
+    put(rt, "quota ", quota)?;
     tell_one(
-        b"keep",
+        rt,
+        "keep",
         planes::keep(zeros(height, width, levels, plane, 0), quota),
-    );
+    )
 }
 
 // The number of tetrolet entries, and one more: 16 - 4, 64 - 16 and 64 - 4.
-pub fn quotas() {
-    quota(4, 4, 1, 16, 12);
-    quota(4, 4, 1, 16, 13);
-    quota(8, 8, 1, 64, 48);
-    quota(8, 8, 1, 64, 49);
-    quota(8, 8, 2, 64, 60);
-    quota(8, 8, 2, 64, 61);
-    quota(4, 4, 1, 16, 4294967296);
-    quota(4, 4, 1, 16, 18446744073709551615);
+pub fn quotas(rt: &impl Print) -> io::Result<()> {
+    quota(rt, 4, 4, 1, 16, 12)?;
+    quota(rt, 4, 4, 1, 16, 13)?;
+    quota(rt, 8, 8, 1, 64, 48)?;
+    quota(rt, 8, 8, 1, 64, 49)?;
+    quota(rt, 8, 8, 2, 64, 60)?;
+    quota(rt, 8, 8, 2, 64, 61)?;
+    quota(rt, 4, 4, 1, 16, 4294967296)?;
+    quota(rt, 4, 4, 1, 16, 18446744073709551615)
 }
 
 // The same for strips: 32 - 8, and 64 - 16.
-pub fn strip_quotas() {
-    quota(4, 8, 1, 32, 24);
-    quota(4, 8, 1, 32, 25);
-    quota(8, 4, 1, 32, 24);
-    quota(8, 4, 1, 32, 25);
-    quota(16, 4, 1, 64, 48);
-    quota(16, 4, 1, 64, 49);
+pub fn strip_quotas(rt: &impl Print) -> io::Result<()> {
+    quota(rt, 4, 8, 1, 32, 24)?;
+    quota(rt, 4, 8, 1, 32, 25)?;
+    quota(rt, 8, 4, 1, 32, 24)?;
+    quota(rt, 8, 4, 1, 32, 25)?;
+    quota(rt, 16, 4, 1, 64, 48)?;
+    quota(rt, 16, 4, 1, 64, 49)
 }
 
-fn limit(limit: u64) {
-    put(b"limit ", limit);
+fn limit(rt: &impl Print, limit: u64) -> io::Result<()> {
+    put(rt, "limit ", limit)?;
     tell_one(
-        b"threshold",
+        rt,
+        "threshold",
         planes::threshold(zeros(4, 4, 1, 16, 1), limit),
-    );
+    )
 }
 
-pub fn limits() {
-    limit(0);
-    limit(1000000);
-    limit(1000001);
-    limit(4294967296);
-    limit(18446744073709551615);
+pub fn limits(rt: &impl Print) -> io::Result<()> {
+    limit(rt, 0)?;
+    limit(rt, 1000000)?;
+    limit(rt, 1000001)?;
+    limit(rt, 4294967296)?;
+    limit(rt, 18446744073709551615)
 }
 
 // The sheet of this plane, whose first entry is the value.
-fn room(frame: Plane, value: i64, room: usize) {
-    put(b"height ", frame.height as u64);
-    put(b"width ", frame.width as u64);
-    put_signed(b"value ", value);
-    put(b"room ", room as u64);
+fn room(rt: &impl Print, frame: Plane, value: i64, room: usize) -> io::Result<()> {
+    put(rt, "height ", frame.height as u64)?;
+    put(rt, "width ", frame.width as u64)?;
+    put_signed(rt, "value ", value)?;
+    put(rt, "room ", room as u64)?;
     let mut k = frame;
     k.value = value;
-    tell_one(b"write", planes::write(k, room));
+    tell_one(rt, "write", planes::write(k, room))
 }
 
 // The sheet of a plane of zeros has 79 bytes: 20 and 6, 20 and 8, 25. The line `1 0 0 0 28` has 11.
-pub fn rooms() {
+pub fn rooms(rt: &impl Print) -> io::Result<()> {
     let k = zeros(4, 4, 1, 16, 1);
-    room(k, 0, 78);
-    room(k, 0, 79);
-    room(k, 0, 80);
-    room(k, 28, 89);
-    room(k, 28, 90);
+    room(rt, k, 0, 78)?;
+    room(rt, k, 0, 79)?;
+    room(rt, k, 0, 80)?;
+    room(rt, k, 28, 89)?;
+    room(rt, k, 28, 90)
 }
 
 // Strips of 4 by 8 and of 16 by 4 have two and four blocks: 20 and 6, 20 and 16, 25; 20 and 7, 20 and 32, 25.
-pub fn strip_rooms() {
+pub fn strip_rooms(rt: &impl Print) -> io::Result<()> {
     let k = zeros(4, 8, 1, 32, 2);
-    room(k, 0, 86);
-    room(k, 0, 87);
+    room(rt, k, 0, 86)?;
+    room(rt, k, 0, 87)?;
     let q = zeros(16, 4, 1, 64, 4);
-    room(q, 0, 103);
-    room(q, 0, 104);
+    room(rt, q, 0, 103)?;
+    room(rt, q, 0, 104)
 }

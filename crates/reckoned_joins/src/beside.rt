@@ -8,6 +8,7 @@ use cases::tally::{Tally, Verdict, counted, judged, same_bytes, same_values, tel
 use pairs::answers::put;
 use pairs::front;
 use plain_frame::strips::strip_of;
+use std::io;
 
 // Keeps the largest of a plane, cuts it, puts 0 everywhere, or leaves it as it is.
 fn cut(k: Case, which: usize, plane: &mut [i64]) {
@@ -244,27 +245,33 @@ fn calls(words: &[u8], height: usize, width: usize, levels: usize) -> Tally {
 }
 
 // How many calls, and how many of them are accepted; some have a covering that is none.
-fn strips(words: &[u8], height: usize, width: usize, levels: usize) {
-    put(b"height ", height as u64);
-    put(b"width ", width as u64);
-    put(b"levels ", levels as u64);
-    tell_list(b"side by side", calls(words, height, width, levels));
+fn strips(
+    rt: &impl Print,
+    words: &[u8],
+    height: usize,
+    width: usize,
+    levels: usize,
+) -> io::Result<()> {
+    put(rt, "height ", height as u64)?;
+    put(rt, "width ", width as u64)?;
+    put(rt, "levels ", levels as u64)?;
+    tell_list(rt, "side by side", calls(words, height, width, levels))
 }
 
 // Squares, tall strips and wide ones. The widest are 4 by 256, and make one of 512.
-pub fn side_by_side(words: &[u8]) {
-    strips(words, 4, 4, 1);
-    strips(words, 8, 4, 1);
-    strips(words, 4, 16, 1);
-    strips(words, 8, 8, 2);
-    strips(words, 16, 8, 2);
-    strips(words, 8, 32, 1);
-    strips(words, 16, 16, 3);
-    long_strips(words);
+pub fn side_by_side(rt: &impl Print, words: &[u8]) -> io::Result<()> {
+    strips(rt, words, 4, 4, 1)?;
+    strips(rt, words, 8, 4, 1)?;
+    strips(rt, words, 4, 16, 1)?;
+    strips(rt, words, 8, 8, 2)?;
+    strips(rt, words, 16, 8, 2)?;
+    strips(rt, words, 8, 32, 1)?;
+    strips(rt, words, 16, 16, 3)?;
+    long_strips(rt, words)
 }
 
-fn long_strips(words: &[u8]) {
-    strips(words, 32, 32, 4);
-    strips(words, 256, 4, 1);
-    strips(words, 4, 256, 1);
+fn long_strips(rt: &impl Print, words: &[u8]) -> io::Result<()> {
+    strips(rt, words, 32, 32, 4)?;
+    strips(rt, words, 256, 4, 1)?;
+    strips(rt, words, 4, 256, 1)
 }

@@ -6,6 +6,7 @@ use pairs::front;
 use pairs::planes::{Plane, plane_of, zeros};
 use plain_frame::safe::{signed, size};
 use plain_frame::strips::{Strip, strip_of};
+use std::io;
 
 // Who joins.
 #[derive(Drop)]
@@ -146,18 +147,18 @@ fn both(left: Plane, right: Plane) -> Call {
     }
 }
 
-fn put_told(k: Plane) {
-    put(b"height ", k.height as u64);
-    put(b"width ", k.width as u64);
-    put(b"levels ", k.levels as u64);
+fn put_told(rt: &impl Print, k: Plane) -> io::Result<()> {
+    put(rt, "height ", k.height as u64)?;
+    put(rt, "width ", k.width as u64)?;
+    put(rt, "levels ", k.levels as u64)
 }
 
-fn shapes(left: Plane, right: Plane) {
-    io::write_all(1, b"left ");
-    put_told(left);
-    io::write_all(1, b"right ");
-    put_told(right);
-    tell_one(b"join", join(both(left, right)));
+fn shapes(rt: &impl Print, left: Plane, right: Plane) -> io::Result<()> {
+    print!(rt; "left ")?;
+    put_told(rt, left)?;
+    print!(rt; "right ")?;
+    put_told(rt, right)?;
+    tell_one(rt, "join", join(both(left, right)))
 }
 
 // A strip in slices of 16 places and 1 covering, which are those of 4 by 4 and 1 level.
@@ -166,88 +167,91 @@ fn small(height: usize, width: usize, levels: usize) -> Plane {
 }
 
 // A height or a width that is none: of the left strip, of the right one, which is not 15, and of both. At 2^63 twice the width is past the largest number.
-pub fn sides() {
-    shapes(small(4, 4, 1), small(4, 4, 1));
-    shapes(small(6, 4, 1), small(4, 4, 1));
-    shapes(small(4, 4, 1), small(6, 4, 1));
-    shapes(small(4, 4, 1), small(4, 6, 1));
-    shapes(small(4, 0, 1), small(4, 0, 1));
-    shapes(small(1024, 4, 1), small(1024, 4, 1));
-    far_sides();
+pub fn sides(rt: &impl Print) -> io::Result<()> {
+    shapes(rt, small(4, 4, 1), small(4, 4, 1))?;
+    shapes(rt, small(6, 4, 1), small(4, 4, 1))?;
+    shapes(rt, small(4, 4, 1), small(6, 4, 1))?;
+    shapes(rt, small(4, 4, 1), small(4, 6, 1))?;
+    shapes(rt, small(4, 0, 1), small(4, 0, 1))?;
+    shapes(rt, small(1024, 4, 1), small(1024, 4, 1))?;
+    far_sides(rt)
 }
 
 // 9223372036854775808 is 2^63.
-fn far_sides() {
-    shapes(small(4, 4, 1), small(4, 1024, 1));
+fn far_sides(rt: &impl Print) -> io::Result<()> {
+    shapes(rt, small(4, 4, 1), small(4, 1024, 1))?;
     shapes(
+        rt,
         small(9223372036854775808, 4, 1),
         small(9223372036854775808, 4, 1),
-    );
+    )?;
     shapes(
+        rt,
         small(4, 9223372036854775808, 1),
         small(4, 9223372036854775808, 1),
-    );
-    shapes(small(4, 4, 9), small(4, 9223372036854775808, 1));
+    )?;
+    shapes(rt, small(4, 4, 9), small(4, 9223372036854775808, 1))
 }
 
 // Levels out of range: of the left strip, of the right one, which is not 15, and of both. With strips too wide it is not 16.
-pub fn depths() {
-    shapes(small(4, 4, 0), small(4, 4, 1));
-    shapes(small(4, 4, 1), small(4, 4, 0));
-    shapes(small(4, 4, 1), small(4, 4, 2));
-    shapes(small(4, 4, 1), small(4, 4, 9));
-    shapes(small(4, 4, 2), small(4, 4, 2));
-    shapes(small(4, 4, 1), small(4, 4, 18446744073709551615));
-    deep_strips();
+pub fn depths(rt: &impl Print) -> io::Result<()> {
+    shapes(rt, small(4, 4, 0), small(4, 4, 1))?;
+    shapes(rt, small(4, 4, 1), small(4, 4, 0))?;
+    shapes(rt, small(4, 4, 1), small(4, 4, 2))?;
+    shapes(rt, small(4, 4, 1), small(4, 4, 9))?;
+    shapes(rt, small(4, 4, 2), small(4, 4, 2))?;
+    shapes(rt, small(4, 4, 1), small(4, 4, 18446744073709551615))?;
+    deep_strips(rt)
 }
 
-fn deep_strips() {
-    shapes(small(8, 8, 2), small(8, 4, 2));
-    shapes(small(4, 8, 2), small(8, 8, 2));
-    shapes(small(4, 512, 2), small(4, 512, 2));
-    shapes(small(512, 512, 8), small(512, 512, 9));
+fn deep_strips(rt: &impl Print) -> io::Result<()> {
+    shapes(rt, small(8, 8, 2), small(8, 4, 2))?;
+    shapes(rt, small(4, 8, 2), small(8, 8, 2))?;
+    shapes(rt, small(4, 512, 2), small(4, 512, 2))?;
+    shapes(rt, small(512, 512, 8), small(512, 512, 9))
 }
 
 // Heights, widths or levels that differ. It is neither 16 nor 3, and is so whatever the lengths are.
-pub fn unlike() {
-    shapes(zeros(8, 4, 1, 32, 2), zeros(8, 4, 1, 32, 2));
-    shapes(zeros(8, 4, 1, 32, 2), zeros(4, 4, 1, 16, 1));
-    shapes(zeros(4, 4, 1, 16, 1), zeros(8, 4, 1, 32, 2));
-    shapes(zeros(4, 8, 1, 32, 2), zeros(4, 4, 1, 16, 1));
-    shapes(zeros(4, 4, 1, 16, 1), zeros(4, 8, 1, 32, 2));
-    shapes(zeros(4, 8, 1, 32, 2), zeros(8, 4, 1, 32, 2));
-    unlike_levels();
-    unlike_wide();
+pub fn unlike(rt: &impl Print) -> io::Result<()> {
+    shapes(rt, zeros(8, 4, 1, 32, 2), zeros(8, 4, 1, 32, 2))?;
+    shapes(rt, zeros(8, 4, 1, 32, 2), zeros(4, 4, 1, 16, 1))?;
+    shapes(rt, zeros(4, 4, 1, 16, 1), zeros(8, 4, 1, 32, 2))?;
+    shapes(rt, zeros(4, 8, 1, 32, 2), zeros(4, 4, 1, 16, 1))?;
+    shapes(rt, zeros(4, 4, 1, 16, 1), zeros(4, 8, 1, 32, 2))?;
+    shapes(rt, zeros(4, 8, 1, 32, 2), zeros(8, 4, 1, 32, 2))?;
+    unlike_levels(rt)?;
+    unlike_wide(rt)
 }
 
-fn unlike_levels() {
-    shapes(zeros(8, 8, 2, 64, 5), zeros(8, 8, 2, 64, 5));
-    shapes(zeros(8, 8, 1, 64, 4), zeros(8, 8, 2, 64, 5));
-    shapes(zeros(8, 8, 2, 64, 5), zeros(8, 8, 1, 64, 4));
+fn unlike_levels(rt: &impl Print) -> io::Result<()> {
+    shapes(rt, zeros(8, 8, 2, 64, 5), zeros(8, 8, 2, 64, 5))?;
+    shapes(rt, zeros(8, 8, 1, 64, 4), zeros(8, 8, 2, 64, 5))?;
+    shapes(rt, zeros(8, 8, 2, 64, 5), zeros(8, 8, 1, 64, 4))
 }
 
-fn unlike_wide() {
-    shapes(small(512, 512, 1), small(512, 256, 1));
-    shapes(small(512, 256, 1), small(512, 512, 1));
-    shapes(small(4, 512, 1), small(8, 512, 1));
-    shapes(small(512, 512, 8), small(512, 512, 7));
+fn unlike_wide(rt: &impl Print) -> io::Result<()> {
+    shapes(rt, small(512, 512, 1), small(512, 256, 1))?;
+    shapes(rt, small(512, 256, 1), small(512, 512, 1))?;
+    shapes(rt, small(4, 512, 1), small(8, 512, 1))?;
+    shapes(rt, small(512, 512, 8), small(512, 512, 7))
 }
 
 // Joined widths over 512, which is not 3; and 512 with short slices, which has passed 16.
-pub fn wide() {
-    shapes(small(4, 256, 1), small(4, 256, 1));
-    shapes(small(4, 512, 1), small(4, 512, 1));
-    shapes(small(512, 256, 7), small(512, 256, 7));
-    shapes(small(512, 512, 8), small(512, 512, 8));
+pub fn wide(rt: &impl Print) -> io::Result<()> {
+    shapes(rt, small(4, 256, 1), small(4, 256, 1))?;
+    shapes(rt, small(4, 512, 1), small(4, 512, 1))?;
+    shapes(rt, small(512, 256, 7), small(512, 256, 7))?;
+    shapes(rt, small(512, 512, 8), small(512, 512, 8))
 }
 
-fn put_lent(plane: usize, coverings: usize) {
-    put(b"plane ", plane as u64);
-    put(b"coverings ", coverings as u64);
+fn put_lent(rt: &impl Print, plane: usize, coverings: usize) -> io::Result<()> {
+    put(rt, "plane ", plane as u64)?;
+    put(rt, "coverings ", coverings as u64)
 }
 
 // Two strips like this one but for the lengths of the slices.
 fn lengths(
+    rt: &impl Print,
     one: Plane,
     left_plane: usize,
     left_coverings: usize,
@@ -255,14 +259,14 @@ fn lengths(
     right_coverings: usize,
     plane: usize,
     coverings: usize,
-) {
-    put(b"width ", one.width as u64);
-    io::write_all(1, b"left ");
-    put_lent(left_plane, left_coverings);
-    io::write_all(1, b"right ");
-    put_lent(right_plane, right_coverings);
-    io::write_all(1, b"joined ");
-    put_lent(plane, coverings);
+) -> io::Result<()> {
+    put(rt, "width ", one.width as u64)?;
+    print!(rt; "left ")?;
+    put_lent(rt, left_plane, left_coverings)?;
+    print!(rt; "right ")?;
+    put_lent(rt, right_plane, right_coverings)?;
+    print!(rt; "joined ")?;
+    put_lent(rt, plane, coverings)?;
     let mut left = one;
     left.plane = left_plane;
     left.coverings = left_coverings;
@@ -275,49 +279,49 @@ fn lengths(
         plane: plane,
         coverings: coverings,
     };
-    tell_one(b"join", join(k));
+    tell_one(rt, "join", join(k))
 }
 
 // 4 by 4 and 1 level: every slice of its exact length, and each with one place less and one more.
-pub fn frames() {
+pub fn frames(rt: &impl Print) -> io::Result<()> {
     let k = zeros(4, 4, 1, 16, 1);
-    lengths(k, 16, 1, 16, 1, 32, 2);
-    lengths(k, 15, 1, 16, 1, 32, 2);
-    lengths(k, 17, 1, 16, 1, 32, 2);
-    lengths(k, 16, 0, 16, 1, 32, 2);
-    lengths(k, 16, 2, 16, 1, 32, 2);
-    lengths(k, 16, 1, 15, 1, 32, 2);
-    lengths(k, 16, 1, 17, 1, 32, 2);
-    lengths(k, 16, 1, 16, 0, 32, 2);
-    lengths(k, 16, 1, 16, 2, 32, 2);
+    lengths(rt, k, 16, 1, 16, 1, 32, 2)?;
+    lengths(rt, k, 15, 1, 16, 1, 32, 2)?;
+    lengths(rt, k, 17, 1, 16, 1, 32, 2)?;
+    lengths(rt, k, 16, 0, 16, 1, 32, 2)?;
+    lengths(rt, k, 16, 2, 16, 1, 32, 2)?;
+    lengths(rt, k, 16, 1, 15, 1, 32, 2)?;
+    lengths(rt, k, 16, 1, 17, 1, 32, 2)?;
+    lengths(rt, k, 16, 1, 16, 0, 32, 2)?;
+    lengths(rt, k, 16, 1, 16, 2, 32, 2)
 }
 
 // The joined slices: as long as those of one strip, one place less and one more than of both.
-pub fn joined_frames() {
+pub fn joined_frames(rt: &impl Print) -> io::Result<()> {
     let k = zeros(4, 4, 1, 16, 1);
-    lengths(k, 16, 1, 16, 1, 16, 2);
-    lengths(k, 16, 1, 16, 1, 31, 2);
-    lengths(k, 16, 1, 16, 1, 33, 2);
-    lengths(k, 16, 1, 16, 1, 32, 1);
-    lengths(k, 16, 1, 16, 1, 32, 3);
+    lengths(rt, k, 16, 1, 16, 1, 16, 2)?;
+    lengths(rt, k, 16, 1, 16, 1, 31, 2)?;
+    lengths(rt, k, 16, 1, 16, 1, 33, 2)?;
+    lengths(rt, k, 16, 1, 16, 1, 32, 1)?;
+    lengths(rt, k, 16, 1, 16, 1, 32, 3)?;
     let q = zeros(8, 8, 2, 64, 5);
-    lengths(q, 64, 5, 64, 5, 128, 5);
-    lengths(q, 64, 5, 64, 5, 128, 9);
-    lengths(q, 64, 5, 64, 5, 128, 10);
+    lengths(rt, q, 64, 5, 64, 5, 128, 5)?;
+    lengths(rt, q, 64, 5, 64, 5, 128, 9)?;
+    lengths(rt, q, 64, 5, 64, 5, 128, 10)
 }
 
 // Strips of 4 by 4 with these coverings, where the joined plane is too short.
-fn short(left: u8, right: u8) {
-    put(b"joined plane ", 31);
-    put(b"left covering ", left as u64);
-    put(b"right covering ", right as u64);
+fn short(rt: &impl Print, left: u8, right: u8) -> io::Result<()> {
+    put(rt, "joined plane ", 31)?;
+    put(rt, "left covering ", left as u64)?;
+    put(rt, "right covering ", right as u64)?;
     let k = Call {
         left: covered(left, 0, 0),
         right: covered(right, 0, 0),
         plane: 31,
         coverings: 2,
     };
-    tell_one(b"join", join(k));
+    tell_one(rt, "join", join(k))
 }
 
 // A strip of 4 by 4 with this covering, and this value at a place among zeros.
@@ -329,40 +333,40 @@ fn covered(covering: u8, at: usize, value: i64) -> Plane {
     k
 }
 
-fn put_held(k: Plane) {
-    put(b"covering ", k.covering as u64);
-    put(b"place ", k.at as u64);
-    put_signed(b"value ", k.value);
+fn put_held(rt: &impl Print, k: Plane) -> io::Result<()> {
+    put(rt, "covering ", k.covering as u64)?;
+    put(rt, "place ", k.at as u64)?;
+    put_signed(rt, "value ", k.value)
 }
 
-fn contents(left: Plane, right: Plane) {
-    io::write_all(1, b"left ");
-    put_held(left);
-    io::write_all(1, b"right ");
-    put_held(right);
-    tell_one(b"join", join(both(left, right)));
+fn contents(rt: &impl Print, left: Plane, right: Plane) -> io::Result<()> {
+    print!(rt; "left ")?;
+    put_held(rt, left)?;
+    print!(rt; "right ")?;
+    put_held(rt, right)?;
+    tell_one(rt, "join", join(both(left, right)))
 }
 
 // Coverings that are none: in the left strip, in the right one and in both. With a joined plane that is too short it is 3, with a value out of its range 5.
-pub fn coverings() {
-    short(0, 118);
-    contents(covered(117, 0, 0), covered(1, 0, 0));
-    contents(covered(0, 0, 0), covered(1, 0, 0));
-    contents(covered(1, 0, 0), covered(0, 0, 0));
-    contents(covered(118, 0, 0), covered(118, 0, 0));
-    contents(covered(1, 0, 0), covered(255, 0, 0));
-    contents(covered(1, 0, -1), covered(0, 0, 0));
-    contents(covered(0, 0, 0), covered(1, 0, -1));
+pub fn coverings(rt: &impl Print) -> io::Result<()> {
+    short(rt, 0, 118)?;
+    contents(rt, covered(117, 0, 0), covered(1, 0, 0))?;
+    contents(rt, covered(0, 0, 0), covered(1, 0, 0))?;
+    contents(rt, covered(1, 0, 0), covered(0, 0, 0))?;
+    contents(rt, covered(118, 0, 0), covered(118, 0, 0))?;
+    contents(rt, covered(1, 0, 0), covered(255, 0, 0))?;
+    contents(rt, covered(1, 0, -1), covered(0, 0, 0))?;
+    contents(rt, covered(0, 0, 0), covered(1, 0, -1))
 }
 
 // Values at the ends of their ranges, and past them: the low-pass at place 0, W at place 8.
-pub fn values() {
-    contents(covered(1, 0, 16380), covered(1, 8, -8190));
-    contents(covered(1, 0, -1), covered(1, 8, 8190));
-    contents(covered(1, 0, 16381), covered(1, 8, 8190));
-    contents(covered(1, 0, 0), covered(1, 0, -1));
-    contents(covered(1, 0, 0), covered(1, 8, 8191));
-    contents(covered(1, 8, -8191), covered(1, 8, -8191));
+pub fn values(rt: &impl Print) -> io::Result<()> {
+    contents(rt, covered(1, 0, 16380), covered(1, 8, -8190))?;
+    contents(rt, covered(1, 0, -1), covered(1, 8, 8190))?;
+    contents(rt, covered(1, 0, 16381), covered(1, 8, 8190))?;
+    contents(rt, covered(1, 0, 0), covered(1, 0, -1))?;
+    contents(rt, covered(1, 0, 0), covered(1, 8, 8191))?;
+    contents(rt, covered(1, 8, -8191), covered(1, 8, -8191))
 }
 
 // Each entry of a plane whose columns have 8 places holds the number of its column, and so much more.
@@ -375,17 +379,15 @@ fn columns(more: usize, plane: &mut [i64]) {
 }
 
 // A row of the joined plane.
-fn put_row(plane: &[i64], row: usize) {
-    io::write_all(1, b"row ");
-    io::print_decimal(1, row as u64);
-    io::write_all(1, b":");
+fn put_row(rt: &impl Print, plane: &[i64], row: usize) -> io::Result<()> {
+    print!(rt; "row {row}:")?;
     let mut col: usize = 0;
     while col < 16 {
-        io::write_all(1, b" ");
-        io::print_decimal(1, size(value_at(plane, plus(times(8, col), row))));
+        let value = size(value_at(plane, plus(times(8, col), row)));
+        print!(rt; " {value}")?;
         col += 1;
     }
-    io::write_all(1, b"\n");
+    print!(rt; "\n")
 }
 
 fn columns_by(way: Way) -> Joined {
@@ -418,16 +420,16 @@ fn columns_by(way: Way) -> Joined {
 // of the left one hold the number of their column, 0 to 7, those of the right one 10 more. Of the joined plane row 0 goes through bands 0 and 1 of level 2,
 // each 4 wide, and band 1 of level 1, 8 wide; row 4 goes through bands 2 and 3 of level 1, each 8 wide. Level 1 has the coverings A to D on the left and a to d
 // on the right, level 2 has E and e.
-pub fn example() {
-    put(b"height ", 8);
-    put(b"width ", 8);
-    put(b"levels ", 2);
+pub fn example(rt: &impl Print) -> io::Result<()> {
+    put(rt, "height ", 8)?;
+    put(rt, "width ", 8)?;
+    put(rt, "levels ", 2)?;
     let x = columns_by(Way::Coder);
     let y = columns_by(Way::Plain);
-    tell_one(b"join", pair(x, y));
-    put_row(&x.plane, 0);
-    put_row(&x.plane, 4);
-    io::write_all(1, b"coverings: ");
-    io::write_all(1, front::bytes(&x.coverings, 10));
-    io::write_all(1, b"\n");
+    tell_one(rt, "join", pair(x, y))?;
+    put_row(rt, &x.plane, 0)?;
+    put_row(rt, &x.plane, 4)?;
+    print!(rt; "coverings: ")?;
+    rt.write_all(front::bytes(&x.coverings, 10))?;
+    print!(rt; "\n")
 }

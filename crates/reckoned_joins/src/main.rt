@@ -3,29 +3,30 @@
 #![tactic(auto)]
 
 use pairs::answers::heading;
+use std::io;
 
 mod beside;
 mod joins;
 
-fn main() {
+fn main(rt: HostRuntime) -> io::Result<()> {
     let mut words = [0u8; 1872];
     plain::tiles::list_words(&mut words);
-    heading(b"examples");
-    joins::example();
-    beside::side_by_side(&words);
-    heading(b"1 side");
-    joins::sides();
-    heading(b"2 depth");
-    joins::depths();
-    heading(b"3 frame");
-    joins::frames();
-    joins::joined_frames();
-    heading(b"5 tile");
-    joins::coverings();
-    heading(b"6 coefficient");
-    joins::values();
-    heading(b"15 mismatch");
-    joins::unlike();
-    heading(b"16 joined width");
-    joins::wide();
+    heading(&rt, "examples")?;
+    joins::example(&rt)?;
+    beside::side_by_side(&rt, &words)?;
+    heading(&rt, "1 side")?;
+    joins::sides(&rt)?;
+    heading(&rt, "2 depth")?;
+    joins::depths(&rt)?;
+    heading(&rt, "3 frame")?;
+    joins::frames(&rt)?;
+    joins::joined_frames(&rt)?;
+    heading(&rt, "5 tile")?;
+    joins::coverings(&rt)?;
+    heading(&rt, "6 coefficient")?;
+    joins::values(&rt)?;
+    heading(&rt, "15 mismatch")?;
+    joins::unlike(&rt)?;
+    heading(&rt, "16 joined width")?;
+    joins::wide(&rt)
 }

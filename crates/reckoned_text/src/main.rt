@@ -2,26 +2,27 @@
 #![tactic(auto)]
 
 use pairs::answers::heading;
+use std::io;
 
 mod texts;
 
-fn main() {
-    heading(b"1 side");
-    texts::sides();
-    texts::strips();
-    heading(b"2 depth");
-    texts::depths();
-    texts::strip_depths();
-    heading(b"9 text");
-    texts::names();
-    texts::counts();
-    texts::sizes();
-    texts::signs();
-    heading(b"11 sequence");
-    texts::blocks();
-    texts::places();
-    texts::order();
-    texts::deep();
-    texts::strip_sheets();
-    texts::strip_places();
+fn main(rt: HostRuntime) -> io::Result<()> {
+    heading(&rt, "1 side")?;
+    texts::sides(&rt)?;
+    texts::strips(&rt)?;
+    heading(&rt, "2 depth")?;
+    texts::depths(&rt)?;
+    texts::strip_depths(&rt)?;
+    heading(&rt, "9 text")?;
+    texts::names(&rt)?;
+    texts::counts(&rt)?;
+    texts::sizes(&rt)?;
+    texts::signs(&rt)?;
+    heading(&rt, "11 sequence")?;
+    texts::blocks(&rt)?;
+    texts::places(&rt)?;
+    texts::order(&rt)?;
+    texts::deep(&rt)?;
+    texts::strip_sheets(&rt)?;
+    texts::strip_places(&rt)
 }

@@ -3,4 +3,3 @@
 // read back and that what is read is written again byte for byte, are `SheetLaws` of specs/Claims.antt, proved in proofs/Laws.antt. Nothing here runs:
 // the crates above have the passes, and `sheet_scan::check::find_parts` carries the laws in its contract.
 #![tactic(auto)]
-

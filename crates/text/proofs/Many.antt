@@ -1,12 +1,11 @@
 -- As many lines as there are, one by one. Assumes nothing.
 use mathlib.Core.Path.{◌≡◌, refl, sym, ap, ◌∙◌, subst}
-use mathlib.Core.Bool.{Bool, true, false, cond}
-use mathlib.Core.List.{List, [], ◌∷◌, ◌++◌}
-use Prim.Native.Nat.{ℕ, zero, suc, ◌+◌, ◌-◌, ◌<◌, ◌≤◌}
+use mathlib.Core.List.{List, [], ◌∷◌}
+use Prim.Native.Nat.{ℕ, zero, suc, ◌-◌, ◌<◌, ◌≤◌}
 use native.Mathlib.Omega.{arith}
 use lib.IntN.{ℤ, pos, nat_abs}
 use lib.ListN.{get_or, length, length-append, drop, drop_of_length-le}
-use Rattle.text.specs.Text.{Parsed, bad, got, and_then, row, many, rows, any, row_text, rows_text, skip, Column, plain, signed, limit, FitsRow, FitsValue}
+use Rattle.text.specs.Text.{Parsed, bad, got, and_then, row, many, rows, any, row_text, rows_text, skip, Column, limit, FitsRow, FitsValue}
 use Rattle.text.specs.At.{skip_of, skip_at}
 use Rattle.text.specs.declared.names.Skip.TheVariants.{To, Bad as NotThere}
 use Rattle.text.specs.declared.lines.Three.{Three}

@@ -1,8 +1,8 @@
 -- Bytes written from a place on. Assumes nothing.
-use mathlib.Core.Path.{◌≡◌, refl, sym, ap, ◌∙◌, subst}
+use mathlib.Core.Path.{◌≡◌, refl, sym, ap, ◌∙◌}
 use mathlib.Core.List.{List, [], ◌∷◌, ◌++◌, append_assoc, append-nil}
-use mathlib.Core.Logic.{◌⊎◌, inl, inr, ⊎_elim}
-use Prim.Native.Nat.{ℕ, zero, suc, ◌+◌, ◌-◌, ◌*◌, ◌/◌, ◌%◌, ◌^◌, ◌<◌, ◌≤◌}
+use mathlib.Core.Logic.{◌⊎◌, inr, ⊎_elim}
+use Prim.Native.Nat.{ℕ, zero, suc, ◌+◌, ◌*◌, ◌/◌, ◌%◌, ◌^◌, ◌<◌, ◌≤◌}
 use native.Mathlib.Nat.{add-zero, add-suc, add_assoc, pow-suc, one-le-pow, le_refl}
 use native.Mathlib.Numerals.{add-one}
 use native.Mathlib.Omega.{arith}
@@ -10,7 +10,7 @@ use lib.IntN.{ℤ, pos, negsuc, nat_abs}
 use lib.Signed.{lt_z}
 use mathlib.Core.Bool.{true, false}
 use borrow.Author.Tests.{ltb-true}
-use lib.ListN.{length, get_or, drop, take, set, length-set, length-append, length-drop, take-append-drop}
+use lib.ListN.{length, drop, take, set, length-set, length-append, length-drop, take-append-drop}
 use lib.Seq.{drop-cons, drop-set-lt, take-set-le, get_or-set_same, append_snoc, length-take-le, take_at, drop-append-add, drop-drop, set_split}
 use Rattle.text.specs.Text.{limit, decimal, digits, row_text, value_text, after}
 use Rattle.text.specs.Write.{stamp, stamped, digits_of, cell_text, four_text, five_text}

@@ -2,4 +2,3 @@
 // list is that, is `UsageLaws` of specs/Laws.antt, proved in proofs/. Nothing here runs: `usage_list` counts, measures and writes, and
 // `usage_list::put_counts` carries the laws in its contract.
 #![tactic(auto)]
-

@@ -15,29 +15,30 @@ mod planes;
 mod views;
 
 use cases::tally::tell;
+use std::io;
 
 // All groups. `words` are those that the second implementation finds by its own search.
-fn tell_all(words: &[u8]) {
-    tell(b"decompose", pictures::group(words));
-    tell(b"within", pictures::within_group(words));
-    tell(b"within 0", pictures::zero_group(words));
-    tell(b"listed", pictures::listed_group(words));
-    tell(b"listed 117", pictures::full_group(words));
-    tell(b"restore", planes::group(words));
-    tell(b"restore listed", planes::listed_group(words));
-    tell(b"keep", marks::keep_group());
-    tell(b"threshold", marks::threshold_group());
-    tell(b"keep again", marks::keep_again_group());
-    tell(b"cut again", marks::cut_again_group());
-    tell(b"test image", generated::group());
-    tell(b"join", joins::group());
-    tell(b"join flaws", joins::flawed_group());
-    tell(b"window", views::group(words));
-    tell(b"window flaws", views::flawed_group(words));
+fn tell_all(rt: &impl Print, words: &[u8]) -> io::Result<()> {
+    tell(rt, "decompose", pictures::group(words))?;
+    tell(rt, "within", pictures::within_group(words))?;
+    tell(rt, "within 0", pictures::zero_group(words))?;
+    tell(rt, "listed", pictures::listed_group(words))?;
+    tell(rt, "listed 117", pictures::full_group(words))?;
+    tell(rt, "restore", planes::group(words))?;
+    tell(rt, "restore listed", planes::listed_group(words))?;
+    tell(rt, "keep", marks::keep_group())?;
+    tell(rt, "threshold", marks::threshold_group())?;
+    tell(rt, "keep again", marks::keep_again_group())?;
+    tell(rt, "cut again", marks::cut_again_group())?;
+    tell(rt, "test image", generated::group())?;
+    tell(rt, "join", joins::group())?;
+    tell(rt, "join flaws", joins::flawed_group())?;
+    tell(rt, "window", views::group(words))?;
+    tell(rt, "window flaws", views::flawed_group(words))
 }
 
-fn main() {
+fn main(rt: HostRuntime) -> io::Result<()> {
     let mut words = [0u8; 1872];
     plain::tiles::list_words(&mut words);
-    tell_all(&words);
+    tell_all(&rt, &words)
 }

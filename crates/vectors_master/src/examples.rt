@@ -6,85 +6,100 @@ use cases::masters::master_of;
 use cases::safe::{put_value, sample_at, value_at};
 use cases::strips::flawed_strip;
 use pairs::answers::{end, put, put_signed, tell};
+use std::io;
 
-fn put_frame(k: Case, covering: u8) {
-    put(b"height ", k.height as u64);
-    put(b"levels ", k.levels as u64);
-    put(b"plane ", k.n as u64);
-    put(b"covering ", covering as u64);
+fn put_frame(rt: &impl Print, k: Case, covering: u8) -> io::Result<()> {
+    put(rt, "height ", k.height as u64)?;
+    put(rt, "levels ", k.levels as u64)?;
+    put(rt, "plane ", k.n as u64)?;
+    put(rt, "covering ", covering as u64)
 }
 
 // Both on a plane, and the first numerator and the first sample that the coder leaves; before they were 7 and 9.
-fn tell_both(words: &[u8], k: Case, plane: &[i64], coverings: &[u8]) {
+fn tell_both(
+    rt: &impl Print,
+    words: &[u8],
+    k: Case,
+    plane: &[i64],
+    coverings: &[u8],
+) -> io::Result<()> {
     let m = master_of(k);
     let x = left_by(words, m, Way::Coder, plane, coverings);
     let y = left_by(words, m, Way::Plain, plane, coverings);
-    let agreed = tell(true, b"master", pair(x, y));
-    put_signed(b"numerator ", value_at(&x.numerators, 0));
-    put(b"sample ", sample_at(&x.samples, 0) as u64);
-    end(agreed);
+    let agreed = tell(rt, true, "master", pair(x, y))?;
+    put_signed(rt, "numerator ", value_at(&x.numerators, 0))?;
+    put(rt, "sample ", sample_at(&x.samples, 0) as u64)?;
+    end(rt, agreed)
 }
 
-fn example(words: &[u8], k: Case, covering: u8, low: i64, at: usize, value: i64) {
-    put_frame(k, covering);
-    put_signed(b"low-pass ", low);
-    put(b"place ", at as u64);
-    put_signed(b"value ", value);
+fn example(
+    rt: &impl Print,
+    words: &[u8],
+    k: Case,
+    covering: u8,
+    low: i64,
+    at: usize,
+    value: i64,
+) -> io::Result<()> {
+    put_frame(rt, k, covering)?;
+    put_signed(rt, "low-pass ", low)?;
+    put(rt, "place ", at as u64)?;
+    put_signed(rt, "value ", value)?;
     let mut plane = [0i64; 65];
     put_value(&mut plane, at, value);
     put_value(&mut plane, 0, low);
     let coverings = [covering; 6];
-    tell_both(words, k, &plane, &coverings);
+    tell_both(rt, words, k, &plane, &coverings)
 }
 
 // 4 by 4 and 1 level: 4 times 0 to 4,095. The entry is the first of band 1.
-fn shallow(words: &[u8], low: i64, value: i64) {
-    example(words, case_of(4, 4, 1, 0, 0), 1, low, 8, value);
+fn shallow(rt: &impl Print, words: &[u8], low: i64, value: i64) -> io::Result<()> {
+    example(rt, words, case_of(4, 4, 1, 0, 0), 1, low, 8, value)
 }
 
 // Document 02, wish 13: "20 when some numerator is not 4^R times a whole number from 0 to 4,095". Zeros; a column of 1; 1, which is not 4 times a number; one
 // sample 1 of which Keep left one coefficient, numerators 2 2 0 0; and 4 4 0 0, though no picture has this plane.
-pub fn whole(words: &[u8]) {
-    shallow(words, 0, 0);
-    shallow(words, 4, 0);
-    shallow(words, 1, 0);
-    shallow(words, 1, 1);
-    shallow(words, 2, 2);
+pub fn whole(rt: &impl Print, words: &[u8]) -> io::Result<()> {
+    shallow(rt, words, 0, 0)?;
+    shallow(rt, words, 4, 0)?;
+    shallow(rt, words, 1, 0)?;
+    shallow(rt, words, 1, 1)?;
+    shallow(rt, words, 2, 2)
 }
 
 // Samples 4,095, one of them 4,096, and 4,095 again; -1 among them, and 0 again.
-pub fn ends(words: &[u8]) {
-    shallow(words, 16380, 0);
-    shallow(words, 16380, 4);
-    shallow(words, 16376, 4);
-    shallow(words, 0, 4);
-    shallow(words, 4, 4);
+pub fn ends(rt: &impl Print, words: &[u8]) -> io::Result<()> {
+    shallow(rt, words, 16380, 0)?;
+    shallow(rt, words, 16380, 4)?;
+    shallow(rt, words, 16376, 4)?;
+    shallow(rt, words, 0, 4)?;
+    shallow(rt, words, 4, 4)
 }
 
 // 8 by 8 and 2 levels: 16 times 0 to 4,095. The entry is the first of band 1 at level 2, place 16, or at level 1, place 32, where it counts four times.
-fn deep(words: &[u8], low: i64, at: usize, value: i64) {
-    example(words, case_of(8, 8, 2, 0, 0), 1, low, at, value);
+fn deep(rt: &impl Print, words: &[u8], low: i64, at: usize, value: i64) -> io::Result<()> {
+    example(rt, words, case_of(8, 8, 2, 0, 0), 1, low, at, value)
 }
 
-pub fn levels(words: &[u8]) {
-    deep(words, 16, 16, 0);
-    deep(words, 4, 16, 0);
-    deep(words, 8, 16, 8);
-    deep(words, 16, 32, 4);
-    deep(words, 16, 32, 2);
-    deep(words, 65520, 16, 0);
-    deep(words, 65520, 16, 16);
+pub fn levels(rt: &impl Print, words: &[u8]) -> io::Result<()> {
+    deep(rt, words, 16, 16, 0)?;
+    deep(rt, words, 4, 16, 0)?;
+    deep(rt, words, 8, 16, 8)?;
+    deep(rt, words, 16, 32, 4)?;
+    deep(rt, words, 16, 32, 2)?;
+    deep(rt, words, 65520, 16, 0)?;
+    deep(rt, words, 65520, 16, 16)
 }
 
 // A plane that would be refused by 20, in calls that are refused before for another reason: -1 in the low-pass, a covering that is none, a plane one place too
 // short, no level, height 12.
-pub fn order(words: &[u8]) {
+pub fn order(rt: &impl Print, words: &[u8]) -> io::Result<()> {
     let k = case_of(4, 4, 1, 0, 0);
-    example(words, k, 1, -1, 8, 1);
-    example(words, k, 118, -1, 8, 1);
+    example(rt, words, k, 1, -1, 8, 1)?;
+    example(rt, words, k, 118, -1, 8, 1)?;
     let short = flawed_strip(k, 9);
-    example(words, short, 118, -1, 8, 1);
+    example(rt, words, short, 118, -1, 8, 1)?;
     let flat = flawed_strip(short, 4);
-    example(words, flat, 118, -1, 8, 1);
-    example(words, flawed_strip(flat, 1), 118, -1, 8, 1);
+    example(rt, words, flat, 118, -1, 8, 1)?;
+    example(rt, words, flawed_strip(flat, 1), 118, -1, 8, 1)
 }

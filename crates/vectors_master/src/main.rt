@@ -12,21 +12,22 @@ mod groups;
 
 use cases::tally::tell;
 use pairs::answers::heading;
+use std::io;
 
 // The examples and all groups. `words` are those that the second implementation finds by its own search.
-fn tell_all(words: &[u8]) {
-    heading(b"20 master");
-    examples::whole(words);
-    examples::ends(words);
-    examples::levels(words);
-    examples::order(words);
-    heading(b"groups");
-    tell(b"master", groups::group(words));
-    tell(b"master flaws", groups::flawed_group(words));
+fn tell_all(rt: &impl Print, words: &[u8]) -> io::Result<()> {
+    heading(rt, "20 master")?;
+    examples::whole(rt, words)?;
+    examples::ends(rt, words)?;
+    examples::levels(rt, words)?;
+    examples::order(rt, words)?;
+    heading(rt, "groups")?;
+    tell(rt, "master", groups::group(words))?;
+    tell(rt, "master flaws", groups::flawed_group(words))
 }
 
-fn main() {
+fn main(rt: HostRuntime) -> io::Result<()> {
     let mut words = [0u8; 1872];
     plain::tiles::list_words(&mut words);
-    tell_all(&words);
+    tell_all(&rt, &words)
 }

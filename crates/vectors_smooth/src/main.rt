@@ -7,16 +7,17 @@
 mod steps;
 
 use cases::tally::tell;
+use std::io;
 
 // All groups. `words` are those that the second implementation finds by its own search.
-fn tell_all(words: &[u8]) {
-    tell(b"smooth", steps::group(words));
-    tell(b"smooth ends", steps::end_group(words));
-    tell(b"smooth flaws", steps::flawed_group(words));
+fn tell_all(rt: &impl Print, words: &[u8]) -> io::Result<()> {
+    tell(rt, "smooth", steps::group(words))?;
+    tell(rt, "smooth ends", steps::end_group(words))?;
+    tell(rt, "smooth flaws", steps::flawed_group(words))
 }
 
-fn main() {
+fn main(rt: HostRuntime) -> io::Result<()> {
     let mut words = [0u8; 1872];
     plain::tiles::list_words(&mut words);
-    tell_all(&words);
+    tell_all(&rt, &words)
 }

@@ -7,17 +7,18 @@ mod lists;
 mod sheets;
 
 use cases::tally::{tell, tell_list};
+use std::io;
 
 // All groups. `words` are those that the second implementation finds by its own search.
-fn tell_all(words: &[u8]) {
-    tell(b"write", sheets::write_group());
-    tell(b"read", sheets::read_group());
-    tell_list(b"usage", lists::usage_group());
-    tell_list(b"word", lists::word_group(words));
+fn tell_all(rt: &impl Print, words: &[u8]) -> io::Result<()> {
+    tell(rt, "write", sheets::write_group())?;
+    tell(rt, "read", sheets::read_group())?;
+    tell_list(rt, "usage", lists::usage_group())?;
+    tell_list(rt, "word", lists::word_group(words))
 }
 
-fn main() {
+fn main(rt: HostRuntime) -> io::Result<()> {
     let mut words = [0u8; 1872];
     plain::tiles::list_words(&mut words);
-    tell_all(&words);
+    tell_all(&rt, &words)
 }

@@ -11,25 +11,27 @@ use Rattle.calibration.proofs.Calls.{laws}
 use Rattle.calibration.proofs.Gates.{show_past, refuses, shown, nothing}
 use Rattle.calibration.proofs.show.Goals as goal
 
--- what the checks found
-passed : (c : goal.In_default) → let a = c.args in 0 ≡ show_refusal a.covering a.steps.now a.samples.now
-passed c = passed_by c.in_default.is c.show_checks-found.ensures
-
-found : (c : goal.In_default) → let a = c.args in (length a.samples.now ≡ 16) × Number a.covering × T (are_steps a.steps.now)
-found c = let a = c.args in show_past a.covering a.steps.now a.samples.now (passed c)
-
 pub returns-in-Refused : goal.returns-in-Refused
 returns-in-Refused c = (refuses _ _ _ c.in-Refused.r (refused_by c.in-Refused.r c.in-Refused.is c.show_checks-found.ensures), laws)
 
 pub first_choice-choice-requires : goal.first_choice-choice-requires
-first_choice-choice-requires c = (c.all_words-words.ensures, c.placements-placements.ensures, c.fours-fours.ensures, (found c.before.before.before.before.before.before).1)
+first_choice-choice-requires c =
+    let passed : let a = c.args in 0 ≡ show_refusal a.covering a.steps.now a.samples.now = passed_by c.in_default.is c.show_checks-found.ensures in
+    let found : let a = c.args in (length a.samples.now ≡ 16) × Number a.covering × T (are_steps a.steps.now) = let a = c.args in show_past a.covering a.steps.now a.samples.now passed in
+    (c.all_words-words.ensures, c.placements-placements.ensures, c.fours-fours.ensures, found.1)
 
 pub put_card-requires : goal.put_card-requires
-put_card-requires c = (c.all_words-words.ensures, (found c.before.before.before.before.before.before.before.before.before.before.before.before).1, (found c.before.before.before.before.before.before.before.before.before.before.before.before).0)
+put_card-requires c =
+    let passed : let a = c.args in 0 ≡ show_refusal a.covering a.steps.now a.samples.now = passed_by c.in_default.is c.show_checks-found.ensures in
+    let found : let a = c.args in (length a.samples.now ≡ 16) × Number a.covering × T (are_steps a.steps.now) = let a = c.args in show_past a.covering a.steps.now a.samples.now passed in
+    (c.all_words-words.ensures, found.1, found.0)
 
 pub returns-in-Steps : goal.returns-in-Steps
 returns-in-Steps c =
-    (shown _ _ _ (passed c.before.before.before.before.before.before.before.before.before.before.before.before.before.before.before) _ _ _ _ _ (sym (ap steps_of c.in-Steps.is) ∙ c.first_choice-choice.ensures) c.put_card.ensures, laws)
+    let passed : let a = c.args in 0 ≡ show_refusal a.covering a.steps.now a.samples.now = passed_by c.in_default.is c.show_checks-found.ensures in
+    (shown _ _ _ passed _ _ _ _ _ (sym (ap steps_of c.in-Steps.is) ∙ c.first_choice-choice.ensures) c.put_card.ensures, laws)
 
 pub returns-in-Nothing : goal.returns-in-Nothing
-returns-in-Nothing c = (nothing _ _ _ (passed c.before.before.before.before.before.before.before.before.before) (sym (ap steps_of c.in-Nothing.is) ∙ c.first_choice-choice.ensures), laws)
+returns-in-Nothing c =
+    let passed : let a = c.args in 0 ≡ show_refusal a.covering a.steps.now a.samples.now = passed_by c.in_default.is c.show_checks-found.ensures in
+    (nothing _ _ _ passed (sym (ap steps_of c.in-Nothing.is) ∙ c.first_choice-choice.ensures), laws)

@@ -13,9 +13,6 @@ use Rattle.coder.specs.Entries.{decompose_refusal}
 use Rattle.coder.proofs.Gates.{truth, small_samples, refuses, picture_past}
 use Rattle.coder.proofs.decompose.Goals as goal
 
-accepted : (c : goal.In_default) → let a = c.args in 0 ≡ decompose_refusal a.height a.width a.levels a.samples.now a.plane.now a.coverings.now a.scratch.now
-accepted c = front_passed 0 c.in_default.is (c.decompose_checks-found.ensures 0)
-
 pub returns-in-Refused : goal.returns-in-Refused
 returns-in-Refused c = refuses _ _ _ _ _ _ _ c.in-Refused.r (front_refused c.in-Refused.r 0 c.in-Refused.is (c.decompose_checks-found.ensures 0))
 
@@ -24,21 +21,22 @@ every_covering-list-requires c = tt
 
 pub decompose_all-requires : goal.decompose_all-requires
 decompose_all-requires c =
+    let accepted : let a = c.args in 0 ≡ decompose_refusal a.height a.width a.levels a.samples.now a.plane.now a.coverings.now a.scratch.now = front_passed 0 c.in_default.is (c.decompose_checks-found.ensures 0) in
     let a = c.args in
-    let z = (picture_past a.height a.width a.levels a.samples.now a.plane.now a.coverings.now a.scratch.now (accepted c.before.before.before.before.before)).0 in
+    let z = (picture_past a.height a.width a.levels a.samples.now a.plane.now a.coverings.now a.scratch.now accepted).0 in
     let s = sides_are a.height a.width (truth z.sided) in
-record { t = (((s.0, s.1, truth z.deep), ((z.long, z.plane_long, z.covered, z.scratch_long), (small_samples a.samples.now z.small z.long, omega arith, good_full _ c.every_covering-list.ensures)))).0; samples_len = (((s.0, s.1, truth z.deep), ((z.long, z.plane_long, z.covered, z.scratch_long), (small_samples a.samples.now z.small z.long, omega arith, good_full _ c.every_covering-list.ensures)))).1; by_index = (((s.0, s.1, truth z.deep), ((z.long, z.plane_long, z.covered, z.scratch_long), (small_samples a.samples.now z.small z.long, omega arith, good_full _ c.every_covering-list.ensures)))).2 }
+    record { t = (s.0, s.1, truth z.deep); samples_len = (z.long, z.plane_long, z.covered, z.scratch_long); by_index = (small_samples a.samples.now z.small z.long, omega arith, good_full _ c.every_covering-list.ensures) }
 
 pub returns : goal.returns
 returns c =
+    let accepted : let a = c.args in 0 ≡ decompose_refusal a.height a.width a.levels a.samples.now a.plane.now a.coverings.now a.scratch.now = front_passed 0 c.in_default.is (c.decompose_checks-found.ensures 0) in
     let e = c.decompose_all.ensures in
-    let k = c.before.before.before.before.before.before.before.before.before.before in
     let a = c.args in
     let all = c.every_covering-list.ensures in
     let w : covers_by (among 0 c.every_covering-list.result) a.levels a.height a.width a.samples.now ≡ covers_of a.levels a.height a.width a.samples.now =
     ap (λ (l : List ℕ). covers_by (among 0 l) a.levels a.height a.width a.samples.now) all ∙ on_without a.levels a.height a.width (picture_of a.height a.samples.now) in
     record {
-      number = accepted c.before.before.before.before.before.before.before.before.before.before;
+      number = accepted;
       planes = e.0 ∙ ap (λ (cs : List ℕ). plane_with a.levels a.height a.width cs a.samples.now) w;
       covers = e.1 ∙ w;
       zeros = e.2;

@@ -11,9 +11,6 @@ use Rattle.coder.specs.Entries.{within_refusal}
 use Rattle.coder.proofs.Gates.{truth, small_samples, refuses_within, tolerance_past}
 use Rattle.coder.proofs.decompose_within.Goals as goal
 
-accepted : (c : goal.In_default) → let a = c.args in 0 ≡ within_refusal a.height a.width a.levels a.tolerance a.samples.now a.plane.now a.coverings.now a.scratch.now
-accepted c = front_passed 0 c.in_default.is (c.within_checks-found.ensures 0)
-
 pub returns-in-Refused : goal.returns-in-Refused
 returns-in-Refused c = refuses_within _ _ _ _ _ _ _ _ c.in-Refused.r (front_refused c.in-Refused.r 0 c.in-Refused.is (c.within_checks-found.ensures 0))
 
@@ -22,20 +19,21 @@ every_covering-list-requires c = tt
 
 pub decompose_all-requires : goal.decompose_all-requires
 decompose_all-requires c =
+    let accepted : let a = c.args in 0 ≡ within_refusal a.height a.width a.levels a.tolerance a.samples.now a.plane.now a.coverings.now a.scratch.now = front_passed 0 c.in_default.is (c.within_checks-found.ensures 0) in
     let a = c.args in
-    let y = tolerance_past a.height a.width a.levels a.tolerance a.samples.now a.plane.now a.coverings.now a.scratch.now (accepted c.before.before.before.before.before) in
+    let y = tolerance_past a.height a.width a.levels a.tolerance a.samples.now a.plane.now a.coverings.now a.scratch.now accepted in
     let z = y.0 in
     let s = sides_are a.height a.width (truth z.sided) in
-record { t = (((s.0, s.1, truth z.deep), ((z.long, z.plane_long, z.covered, z.scratch_long), (small_samples a.samples.now z.small z.long, y.1, good_full _ c.every_covering-list.ensures)))).0; samples_len = (((s.0, s.1, truth z.deep), ((z.long, z.plane_long, z.covered, z.scratch_long), (small_samples a.samples.now z.small z.long, y.1, good_full _ c.every_covering-list.ensures)))).1; by_index = (((s.0, s.1, truth z.deep), ((z.long, z.plane_long, z.covered, z.scratch_long), (small_samples a.samples.now z.small z.long, y.1, good_full _ c.every_covering-list.ensures)))).2 }
+    record { t = (s.0, s.1, truth z.deep); samples_len = (z.long, z.plane_long, z.covered, z.scratch_long); by_index = (small_samples a.samples.now z.small z.long, y.1, good_full _ c.every_covering-list.ensures) }
 
 pub returns : goal.returns
 returns c =
+    let accepted : let a = c.args in 0 ≡ within_refusal a.height a.width a.levels a.tolerance a.samples.now a.plane.now a.coverings.now a.scratch.now = front_passed 0 c.in_default.is (c.within_checks-found.ensures 0) in
     let e = c.decompose_all.ensures in
     let all = c.every_covering-list.ensures in
-    let k = c.before.before.before.before.before.before.before.before.before.before in
     let a = c.args in
     record {
-      number = accepted c.before.before.before.before.before.before.before.before.before.before;
+      number = accepted;
       planes = e.0 ∙ ap (λ (l : List ℕ). plane_by (among a.tolerance l) a.levels a.height a.width a.samples.now) all;
       covers = e.1 ∙ ap (λ (l : List ℕ). covers_by (among a.tolerance l) a.levels a.height a.width a.samples.now) all;
       zeros = e.2;

@@ -11,13 +11,12 @@ use Rattle.costing.proofs.Placements.{spread_cong}
 use Rattle.costing.proofs.placement_cost.Goals as goal
 
 pub spread_of-requires : goal.spread_of-requires
-spread_of-requires c =
-    (
-      small_within c.args.v.now c.requires.2 _ c.placed_cell-a.ensures.1,
-      small_within c.args.v.now c.requires.2 _ c.placed_cell-b.ensures.1,
-      small_within c.args.v.now c.requires.2 _ c.placed_cell-c.ensures.1,
-      small_within c.args.v.now c.requires.2 _ c.placed_cell-d.ensures.1,
-    )
+spread_of-requires c = (
+  small_within c.args.v.now c.requires.2 _ c.placed_cell-a.ensures.1,
+  small_within c.args.v.now c.requires.2 _ c.placed_cell-b.ensures.1,
+  small_within c.args.v.now c.requires.2 _ c.placed_cell-c.ensures.1,
+  small_within c.args.v.now c.requires.2 _ c.placed_cell-d.ensures.1,
+)
 
 pub returns : goal.returns
 returns c =

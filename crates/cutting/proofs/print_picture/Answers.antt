@@ -42,25 +42,29 @@ slice_bounds-print_sheet-end-3 c = sym (length-take-le _ _ (omega (arith, area c
 pub print_sheet-requires : goal.print_sheet-requires
 print_sheet-requires c =
     let p = c.requires in
-    let x = area c.before.before.before.before.before.before.before.before in record { width_value = ((
-      p.0,
-      (
-        (p.1.0, length-take-le _ _ (omega (arith, x, c.plane_buffer-plane.ensures)), length-take-le _ _ (omega (arith, x, c.plane_buffer-scratch.ensures))),
-        (length-take-le _ _ (omega (arith, blocks c.before.before.before.before.before.before.before, c.covering_buffer-coverings.ensures)) ∙ c.count_blocks-blocks.ensures.0, p.1.1),
-      ),
-    )).0; samples_len = ((
-      p.0,
-      (
-        (p.1.0, length-take-le _ _ (omega (arith, x, c.plane_buffer-plane.ensures)), length-take-le _ _ (omega (arith, x, c.plane_buffer-scratch.ensures))),
-        (length-take-le _ _ (omega (arith, blocks c.before.before.before.before.before.before.before, c.covering_buffer-coverings.ensures)) ∙ c.count_blocks-blocks.ensures.0, p.1.1),
-      ),
-    )).1; coverings_len = ((
-      p.0,
-      (
-        (p.1.0, length-take-le _ _ (omega (arith, x, c.plane_buffer-plane.ensures)), length-take-le _ _ (omega (arith, x, c.plane_buffer-scratch.ensures))),
-        (length-take-le _ _ (omega (arith, blocks c.before.before.before.before.before.before.before, c.covering_buffer-coverings.ensures)) ∙ c.count_blocks-blocks.ensures.0, p.1.1),
-      ),
-    )).2 }
+    let x = area c.before.before.before.before.before.before.before.before in record {
+      width_value = ((
+        p.0,
+        (
+          (p.1.0, length-take-le _ _ (omega (arith, x, c.plane_buffer-plane.ensures)), length-take-le _ _ (omega (arith, x, c.plane_buffer-scratch.ensures))),
+          (length-take-le _ _ (omega (arith, blocks c.before.before.before.before.before.before.before, c.covering_buffer-coverings.ensures)) ∙ c.count_blocks-blocks.ensures.0, p.1.1),
+        ),
+      )).0;
+      samples_len = ((
+        p.0,
+        (
+          (p.1.0, length-take-le _ _ (omega (arith, x, c.plane_buffer-plane.ensures)), length-take-le _ _ (omega (arith, x, c.plane_buffer-scratch.ensures))),
+          (length-take-le _ _ (omega (arith, blocks c.before.before.before.before.before.before.before, c.covering_buffer-coverings.ensures)) ∙ c.count_blocks-blocks.ensures.0, p.1.1),
+        ),
+      )).1;
+      coverings_len = ((
+        p.0,
+        (
+          (p.1.0, length-take-le _ _ (omega (arith, x, c.plane_buffer-plane.ensures)), length-take-le _ _ (omega (arith, x, c.plane_buffer-scratch.ensures))),
+          (length-take-le _ _ (omega (arith, blocks c.before.before.before.before.before.before.before, c.covering_buffer-coverings.ensures)) ∙ c.count_blocks-blocks.ensures.0, p.1.1),
+        ),
+      )).2;
+    }
 
 pub returns : goal.returns
 returns c = c.print_sheet.ensures

@@ -5,10 +5,6 @@ use Rattle.pyramid.specs.Sides.{is_sides}
 use Rattle.places.proofs.Sides.{sides_small}
 use Rattle.generator.proofs.image_checks.Goals as goal
 
--- what check 1 has found
-sided : (c : goal.Else-not-are_sides) → let a = c.args in is_sides a.height a.width ≡ true
-sided c = sym c.are_sides.ensures ∙ c.if-not-are_sides.false
-
 pub are_sides-requires : goal.are_sides-requires
 are_sides-requires c = tt
 
@@ -17,12 +13,17 @@ returns-then-not-are_sides c = rw (← c.are_sides.ensures, c.if-not-are_sides.t
 
 pub overflow_mul-width : goal.overflow_mul-width
 overflow_mul-width c =
+    let sided : let a = c.args in is_sides a.height a.width ≡ true = sym c.are_sides.ensures ∙ c.if-not-are_sides.false in
     let a = c.args in
-    let l = sides_small a.height a.width (sided c) in
+    let l = sides_small a.height a.width sided in
     omega (arith, mul-le-mul l.1 l.0)
 
 pub returns-then-samples-width : goal.returns-then-samples-width
-returns-then-samples-width c = simp (sided c.before, ne_eqb _ _ c.if-samples-width.true)
+returns-then-samples-width c =
+    let sided : let a = c.args in is_sides a.height a.width ≡ true = sym c.are_sides.ensures ∙ c.if-not-are_sides.false in
+    simp (sided, ne_eqb _ _ c.if-samples-width.true)
 
 pub returns : goal.returns
-returns c = simp (sided c.before, eq-eqb _ _ c.if-samples-width.false)
+returns c =
+    let sided : let a = c.args in is_sides a.height a.width ≡ true = sym c.are_sides.ensures ∙ c.if-not-are_sides.false in
+    simp (sided, eq-eqb _ _ c.if-samples-width.false)

@@ -5,7 +5,7 @@ use lib.ListN.{length}
 use Rattle.list_coverings.proofs.show_word.Given as goal
 
 abbrev pub invariant-loop-i : goal.invariant-loop-i
-invariant-loop-i l = (i ≤ 16) × (length l.word ≡ 16)
+invariant-loop-i g l = (l.i ≤ 16) × (length l.word ≡ 16)
 
 abbrev pub decreases-loop-i : goal.decreases-loop-i
-decreases-loop-i l = 16 - i
+decreases-loop-i g l = 16 - l.i

@@ -17,8 +17,7 @@ decompose_all-requires c =
     let y = listed_past a.height a.width a.levels a.tolerance a.samples.now a.list.now a.plane.now a.coverings.now a.scratch.now accepted in
     let z = y.0 in
     let s = sides_are a.height a.width (truth z.sided) in
-
-record { t = (((s.0, s.1, truth z.deep), ((z.long, z.plane_long, z.covered, z.scratch_long), (small_samples a.samples.now z.small z.long, y.1, y.2)))).0; samples_len = (((s.0, s.1, truth z.deep), ((z.long, z.plane_long, z.covered, z.scratch_long), (small_samples a.samples.now z.small z.long, y.1, y.2)))).1; by_index = (((s.0, s.1, truth z.deep), ((z.long, z.plane_long, z.covered, z.scratch_long), (small_samples a.samples.now z.small z.long, y.1, y.2)))).2 }
+    record { t = (s.0, s.1, truth z.deep); samples_len = (z.long, z.plane_long, z.covered, z.scratch_long); by_index = (small_samples a.samples.now z.small z.long, y.1, y.2) }
 
 pub returns : goal.returns
 returns c =

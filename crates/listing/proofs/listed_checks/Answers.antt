@@ -7,10 +7,6 @@ use Rattle.terms.specs.Terms.{is_list}
 use Rattle.listing.specs.Entries.{listed_refusal}
 use Rattle.listing.proofs.listed_checks.Goals as goal
 
-behind : (c : goal.In_default) → let a = c.args in
-    refuse_if (not (is_list a.list.now)) 14 0 ≡ listed_refusal a.height a.width a.levels a.tolerance a.samples.now a.list.now a.plane.now a.coverings.now a.scratch.now
-behind c = front_passed _ c.in_default.is (c.within_checks-found.ensures _)
-
 pub within_checks-found-requires : goal.within_checks-found-requires
 within_checks-found-requires c = tt
 
@@ -21,7 +17,13 @@ pub is_list-requires : goal.is_list-requires
 is_list-requires c = tt
 
 pub returns-then-not-is_list : goal.returns-then-not-is_list
-returns-then-not-is_list c = rw (← behind c.before.before, ← c.is_list.ensures, c.if-not-is_list.true)
+returns-then-not-is_list c =
+    let behind : let a = c.args in
+    refuse_if (not (is_list a.list.now)) 14 0 ≡ listed_refusal a.height a.width a.levels a.tolerance a.samples.now a.list.now a.plane.now a.coverings.now a.scratch.now = front_passed _ c.in_default.is (c.within_checks-found.ensures _) in
+    rw (← behind, ← c.is_list.ensures, c.if-not-is_list.true)
 
 pub returns : goal.returns
-returns c = rw (← behind c.before.before, ← c.is_list.ensures, c.if-not-is_list.false)
+returns c =
+    let behind : let a = c.args in
+    refuse_if (not (is_list a.list.now)) 14 0 ≡ listed_refusal a.height a.width a.levels a.tolerance a.samples.now a.list.now a.plane.now a.coverings.now a.scratch.now = front_passed _ c.in_default.is (c.within_checks-found.ensures _) in
+    rw (← behind, ← c.is_list.ensures, c.if-not-is_list.false)

@@ -9,15 +9,6 @@ use Rattle.coder.proofs.Gates.{restorable}
 use Rattle.mastering.specs.Entry.{master_refusal}
 use Rattle.mastering.proofs.master_checks.Goals as goal
 
--- the plane with its coverings
-abbrev strip : goal.Start → Strip
-strip s = strip_of s.args.height s.args.width s.args.levels s.args.plane.now s.args.coverings.now
-
--- the last one
-behind : (c : goal.In_default) → let s = c.before.before.before.before.before in let a = c.args in
-    refuse_if (not (are_whole a.levels a.height a.width a.coverings.now a.plane.now)) 20 0 ≡ master_refusal (strip s) a.numerators.now a.samples.now a.scratch.now
-behind c = front_passed _ c.in_default.is (c.restore_checks-found.ensures _)
-
 pub restore_checks-found-requires : goal.restore_checks-found-requires
 restore_checks-found-requires c = tt
 
@@ -30,7 +21,13 @@ all_whole-requires c =
     (restorable _ _ _ _ _ a.numerators.now a.samples.now a.scratch.now (front_passed 0 c.in_default.is (c.restore_checks-found.ensures 0))).0
 
 pub returns-then-not-all_whole : goal.returns-then-not-all_whole
-returns-then-not-all_whole c = rw (← behind c.before.before, ← c.all_whole.ensures, c.if-not-all_whole.true)
+returns-then-not-all_whole c =
+    let behind : let a = c.args in
+    refuse_if (not (are_whole a.levels a.height a.width a.coverings.now a.plane.now)) 20 0 ≡ master_refusal (strip_of c.args.height c.args.width c.args.levels c.args.plane.now c.args.coverings.now) a.numerators.now a.samples.now a.scratch.now = front_passed _ c.in_default.is (c.restore_checks-found.ensures _) in
+    rw (← behind, ← c.all_whole.ensures, c.if-not-all_whole.true)
 
 pub returns : goal.returns
-returns c = rw (← behind c.before.before, ← c.all_whole.ensures, c.if-not-all_whole.false)
+returns c =
+    let behind : let a = c.args in
+    refuse_if (not (are_whole a.levels a.height a.width a.coverings.now a.plane.now)) 20 0 ≡ master_refusal (strip_of c.args.height c.args.width c.args.levels c.args.plane.now c.args.coverings.now) a.numerators.now a.samples.now a.scratch.now = front_passed _ c.in_default.is (c.restore_checks-found.ensures _) in
+    rw (← behind, ← c.all_whole.ensures, c.if-not-all_whole.false)

@@ -3,7 +3,6 @@ use mathlib.Core.Path.{◌≡◌, ap, subst, subst⁻¹}
 use Prim.Native.Nat.{ℕ, ◌-◌}
 use native.Mathlib.Omega.{arith}
 use borrow.Author.Rules.{rules}
-use borrow.Author.Tests.{not-true, not-false}
 use lib.Dec.{T}
 use Rattle.places.proofs.Sides.{passed}
 use Rattle.ranges.proofs.Levels.{most_at, Looked, looked_start, start_small, room_right, room_below, most-here, not_right, not_below, next-most, next, room_low, low_small, decided}
@@ -13,42 +12,42 @@ pub loop-left-init : goal.loop-left-init
 loop-left-init c =
     let a = c.args in
     let z : 0 ≡ a.levels - a.levels = omega arith in
-    (search rules, ap most_at z, subst (λ (d : ℕ). Looked a.levels a.height a.width a.plane.now d a.levels a.height a.width) z (looked_start a.levels a.height a.width a.plane.now (passed a.height a.width a.levels c.requires.0.0 c.requires.0.1)))
+    (search rules, ap most_at z, subst (λ (d : ℕ). Looked a.levels a.height a.width a.plane.now d a.levels a.height a.width) z (looked_start a.levels a.height a.width a.plane.now (passed a.height a.width a.levels c.requires.width_value.0 c.requires.width_value.1)))
 
 pub overflow_mul-half : goal.overflow_mul-half
-overflow_mul-half c = omega (arith, start_small c.loop-left.invariant.2 (omega arith) c.requires.1)
+overflow_mul-half c = omega (arith, start_small c.loop-left.invariant.2 (omega arith) c.requires.plane_len)
 
 pub rectangle_bounded-requires : goal.rectangle_bounded-requires
 rectangle_bounded-requires c =
     let l = c.loop-left in
-    let p = c.requires.1 in
+    let p = c.requires.plane_len in
     (room_right l.invariant.2 (omega arith) p, omega (arith, l.invariant.2.tall, l.invariant.2.below), omega (arith, most-here l.invariant.2 (omega arith) p l.invariant.1))
 
 pub returns-then-not-rectangle_bounded : goal.returns-then-not-rectangle_bounded
 returns-then-not-rectangle_bounded c =
     let l = c.loop-left in
-    not_right l.invariant.2 (omega arith) c.requires.1 l.invariant.1
+    not_right l.invariant.2 (omega arith) c.requires.plane_len l.invariant.1
     (λ r. subst T c.if-not-rectangle_bounded.true (c.rectangle_bounded.ensures.1 r))
 
 pub rectangle_bounded-requires-in-loop-left : goal.rectangle_bounded-requires-in-loop-left
 rectangle_bounded-requires-in-loop-left c =
     let l = c.loop-left in
-    let p = c.requires.1 in
+    let p = c.requires.plane_len in
     (room_below l.invariant.2 (omega arith) p, omega (arith, l.invariant.2.tall, l.invariant.2.below), omega (arith, most-here l.invariant.2 (omega arith) p l.invariant.1))
 
 pub returns-then-not-rectangle_bounded-2 : goal.returns-then-not-rectangle_bounded-2
 returns-then-not-rectangle_bounded-2 c =
     let l = c.loop-left in
-    not_below l.invariant.2 (omega arith) c.requires.1 l.invariant.1
+    not_below l.invariant.2 (omega arith) c.requires.plane_len l.invariant.1
     (λ r. subst T c.if-not-rectangle_bounded-2.true (c.rectangle_bounded-in-loop-left.ensures.1 r))
 
 pub overflow_mul-most : goal.overflow_mul-most
-overflow_mul-most c = let l = c.loop-left in omega (arith, most-here l.invariant.2 (omega arith) c.requires.1 l.invariant.1)
+overflow_mul-most c = let l = c.loop-left in omega (arith, most-here l.invariant.2 (omega arith) c.requires.plane_len l.invariant.1)
 
 pub loop-left-preserved : goal.loop-left-preserved
 loop-left-preserved c =
     let l = c.loop-left in
-    let p = c.requires.1 in (
+    let p = c.requires.plane_len in (
       omega (arith, l.invariant.0),
       next-most l.invariant.2 (omega arith) p l.invariant.1,
       next l.invariant.2 (omega arith) p l.invariant.1
@@ -59,10 +58,10 @@ loop-left-preserved c =
 pub rectangle_bounded-requires-2 : goal.rectangle_bounded-requires-2
 rectangle_bounded-requires-2 c =
     let l = c.loop-left in
-    let p = c.requires.1 in
+    let p = c.requires.plane_len in
     (room_low l.invariant.2 (omega arith) p l.invariant.1, omega (arith, l.invariant.2.tall, l.invariant.2.below), omega (arith, low_small l.invariant.2 (omega arith) p l.invariant.1))
 
 pub returns : goal.returns
 returns c =
     let l = c.loop-left in
-    decided l.invariant.2 (omega arith) c.requires.1 l.invariant.1 c.rectangle_bounded-2.result c.rectangle_bounded-2.ensures
+    decided l.invariant.2 (omega arith) c.requires.plane_len l.invariant.1 c.rectangle_bounded-2.result c.rectangle_bounded-2.ensures

@@ -12,10 +12,10 @@ use Rattle.ranges.proofs.Runs.{low_no, low_yes}
 use Rattle.ranges.proofs.is_low.Goals as goal
 
 pub returns-then-v-lt0 : goal.returns-then-v-lt0
-returns-then-v-lt0 c = let n : lt_z c.args.v (pos 0) ≡ true = rw (to_z-of_z c.fits.v) at c.if-v-lt0.taken in ((λ t. absurd t), (λ b. absurd (low_no c.args.most c.args.v n b)))
+returns-then-v-lt0 c = let n : lt_z c.args.v (pos 0) ≡ true = rw (to_z-of_z c.ranges.v) at c.if-v-lt0.true in ((λ t. absurd t), (λ b. absurd (low_no c.args.most c.args.v n b)))
 
 pub returns : goal.returns
 returns c =
-    let n : lt_z c.args.v (pos 0) ≡ false = rw (to_z-of_z c.fits.v) at c.if-v-lt0.left in
-    let m : c.magnitude.result ≡ nat_abs c.args.v = c.magnitude.ensures ∙ ap nat_abs (to_z-of_z c.fits.v) in
+    let n : lt_z c.args.v (pos 0) ≡ false = rw (to_z-of_z c.ranges.v) at c.if-v-lt0.false in
+    let m : c.magnitude.result ≡ nat_abs c.args.v = c.magnitude.ensures ∙ ap nat_abs (to_z-of_z c.ranges.v) in
     subst⁻¹ (λ (m : ℕ). T (leb m c.args.most) ↔ Bounded true c.args.most c.args.v) m (low_yes c.args.most c.args.v n)

@@ -1,9 +1,8 @@
 -- `ranges::rectangle_bounded` meets its contract: column by column. Assumes nothing.
 use mathlib.Core.Path.{◌≡◌, subst, subst⁻¹}
-use Prim.Native.Nat.{ℕ, ◌-◌}
+use Prim.Native.Nat.{ℕ}
 use native.Mathlib.Omega.{arith}
 use borrow.Author.Rules.{rules}
-use borrow.Author.Tests.{not-true, not-false}
 use lib.Dec.{T}
 use Rattle.ranges.specs.Bounds.{Rectangle}
 use Rattle.ranges.proofs.Runs.{rectangle_none, rectangle_next, rectangle_column}

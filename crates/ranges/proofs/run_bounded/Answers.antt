@@ -9,9 +9,9 @@ use Rattle.ranges.proofs.run_bounded.Goals as goal
 pub returns-then-low : goal.returns-then-low
 returns-then-low c =
     let a = c.args in
-    subst⁻¹ (λ (low : Bool). T c.run_low.result ↔ Run low a.most a.plane.now a.first a.n) c.if-low.taken c.run_low.ensures
+    subst⁻¹ (λ (low : Bool). T c.run_low.result ↔ Run low a.most a.plane.now a.first a.n) c.if-low.true c.run_low.ensures
 
 pub returns : goal.returns
 returns c =
     let a = c.args in
-    subst⁻¹ (λ (low : Bool). T c.run_within.result ↔ Run low a.most a.plane.now a.first a.n) c.if-low.left c.run_within.ensures
+    subst⁻¹ (λ (low : Bool). T c.run_within.result ↔ Run low a.most a.plane.now a.first a.n) c.if-low.false c.run_within.ensures

@@ -1,6 +1,6 @@
 -- `sheet_render::blocks_length` meets its contract: what is measured and what is left to measure are all. Assumes nothing.
 use mathlib.Core.Path.{ap, ◌∙◌}
-use Prim.Native.Nat.{◌+◌, ◌-◌}
+use Prim.Native.Nat.{◌+◌}
 use native.Mathlib.Omega.{arith}
 use lib.ListN.{length, get_or, length-append}
 use Rattle.text.specs.Text.{rows_text}
@@ -13,31 +13,20 @@ use Rattle.places.proofs.Steps.{not_ended}
 use Rattle.sheet_render.proofs.Pieces.{blocks_from, blocks_next, blocks_end}
 use Rattle.sheet_render.proofs.blocks_length.Goals as goal
 
-pub first_block-k-requires : goal.first_block-k-requires
-first_block-k-requires c = (c.requires.0.0, c.requires.0.1)
-
 pub loop-i-init : goal.loop-i-init
 loop-i-init c =
     let cs = c.args.coverings.now in
     let e = c.first_block-k.ensures.result_value in
     let n = blocks_count 0 c.args.levels c.args.height c.args.width in
-    let l = c.requires.1.0 in
+    let l = c.requires.coverings_len.0 in
     (c.first_block-k.ensures.inside, omega arith, omega (arith, ap length e), omega arith, omega (arith, ap (λ bs. length (rows_text (block_rows bs cs))) e))
-
-pub overflow_cast-c : goal.overflow_cast-c
-overflow_cast-c c = omega (arith, c.type_inv.coverings c.loop-i.i)
-
-pub four_width-n-requires : goal.four_width-n-requires
-four_width-n-requires c =
-    let i = c.loop-i.invariant.0 in
-    (omega (arith, i.levels), omega (arith, i.row, i.tall, i.down), omega (arith, i.col, i.wide, i.across), omega (arith, c.type_inv.coverings c.loop-i.i))
 
 pub overflow_add-n : goal.overflow_add-n
 overflow_add-n c =
     let l = c.loop-i in
     let k = l.k in
     let cs = c.args.coverings.now in
-    omega (arith, c.requires.1.1, c.four_width-n.ensures, four_bound k.level k.row k.col (get_or cs l.i 0) 10)
+    omega (arith, c.requires.coverings_len.1, c.four_width-n.ensures, four_bound k.level k.row k.col (get_or cs l.i 0) 10)
 
 pub step-k-requires : goal.step-k-requires
 step-k-requires c =
@@ -61,4 +50,4 @@ pub returns : goal.returns
 returns c =
     let l = c.loop-i in
     let z = ap length (blocks_end l.k c.args.coverings.now l.i (omega arith)) in
-    (omega arith, omega (arith, c.requires.1.1))
+    (omega arith, omega (arith, c.requires.coverings_len.1))

@@ -1,6 +1,6 @@
 -- `sheet_render::put_blocks` meets its contract: what is left to write from the present place is all there is to write. Assumes nothing.
 use mathlib.Core.Path.{refl, sym, ap, ◌∙◌}
-use Prim.Native.Nat.{◌+◌, ◌-◌, ◌≤◌}
+use Prim.Native.Nat.{◌+◌, ◌≤◌}
 use native.Mathlib.Omega.{arith}
 use lib.ListN.{length, get_or, drop, length-append}
 use Rattle.text.specs.Text.{rows_text}
@@ -13,35 +13,24 @@ use Rattle.places.proofs.Steps.{not_ended, present}
 use Rattle.sheet_render.proofs.Pieces.{blocks_from, blocks_next, blocks_end}
 use Rattle.sheet_render.proofs.put_blocks.Goals as goal
 
--- the line has room
-room : (c : goal.After-put_four-arg-1) → let l = c.loop-i in let k = l.k in
-    l.p + length (four_text k.level k.row k.col (get_or c.args.coverings.now l.i 0) 10) ≤ length l.out
-room c =
-    let l = c.loop-i in
-    let k = l.k in
-    let cs = c.args.coverings.now in
-    let t = present block_at k (not_ended block_at k (omega arith)) l.invariant.0.row l.invariant.0.col in
-    let x = ap length (blocks_next k t.0 cs l.i (omega arith) t.1) ∙ length-append (four_text k.level k.row k.col (get_or cs l.i 0) 10) (rows_text (block_rows t.0 (drop (l.i + 1) cs))) in
-    omega (arith, c.requires.1.1)
-
-pub first_block-k-requires : goal.first_block-k-requires
-first_block-k-requires c = (c.requires.0.0, c.requires.0.1)
-
 pub loop-i-init : goal.loop-i-init
 loop-i-init c =
     let cs = c.args.coverings.now in
     let e = c.first_block-k.ensures.result_value in
     let n = blocks_count 0 c.args.levels c.args.height c.args.width in
-    let l = c.requires.1.0 in
+    let l = c.requires.coverings_len in
     (c.first_block-k.ensures.inside, omega arith, omega (arith, ap length e), refl, ap (λ bs. c.args.at + length (rows_text (block_rows bs cs))) e, ap (λ bs. stamp c.args.at (rows_text (block_rows bs cs)) c.args.out.now) e)
-
-pub overflow_cast-c : goal.overflow_cast-c
-overflow_cast-c c = omega (arith, c.type_inv.coverings c.loop-i.i)
 
 pub put_four-p-requires : goal.put_four-p-requires
 put_four-p-requires c =
-    let i = c.loop-i.invariant.0 in
-    (omega (arith, i.levels), omega (arith, i.row, i.tall, i.down), omega (arith, i.col, i.wide, i.across), omega (arith, c.type_inv.coverings c.loop-i.i), room c)
+    let l = c.loop-i in
+    let k = l.k in
+    let i = l.invariant.0 in
+    let cs = c.args.coverings.now in
+    -- the line has room
+    let t = present block_at k (not_ended block_at k (omega arith)) i.row i.col in
+    let x = ap length (blocks_next k t.0 cs l.i (omega arith) t.1) ∙ length-append (four_text k.level k.row k.col (get_or cs l.i 0) 10) (rows_text (block_rows t.0 (drop (l.i + 1) cs))) in
+    (omega (arith, i.levels), omega (arith, i.row, i.tall, i.down), omega (arith, i.col, i.wide, i.across), omega (arith, c.type_inv.coverings l.i), omega (arith, c.requires.coverings_in_bounds))
 
 pub step-k-requires : goal.step-k-requires
 step-k-requires c =
@@ -58,7 +47,8 @@ loop-i-preserved c =
     let r = blocks_from c.step-k.result cs (l.i + 1) in
     let x = blocks_next k (blocks_left c.step-k.result) cs l.i (omega arith) e in
     let y = ap length x ∙ length-append t r in
-    let w : Put l.p c.put_four-p.result t l.out c.put_four-p.new.out = record { room = room c.before.before.before.before; next = c.put_four-p.ensures.value; bytes = c.put_four-p.ensures.out_after } in (
+    let room : l.p + length t ≤ length l.out = omega (arith, c.requires.coverings_in_bounds) in
+    let w : Put l.p c.put_four-p.result t l.out c.put_four-p.new.out = record { room = room; next = c.put_four-p.ensures.value; bytes = c.put_four-p.ensures.out_after } in (
       c.step-k.ensures.inside,
       omega arith,
       omega (arith, ap length e),
@@ -67,12 +57,14 @@ loop-i-preserved c =
       left_after r w ∙ ap (λ z. stamp l.p z l.out) (sym x) ∙ l.invariant.5,
     )
 
-pub shape_of-out : goal.shape_of-out
-shape_of-out c = c.loop-i.invariant.3
+pub returns-clause-value : goal.returns-clause-value
+returns-clause-value c =
+    let l = c.loop-i in
+    let y = ap length (blocks_end l.k c.args.coverings.now l.i (omega arith)) in
+    omega arith
 
-pub returns : goal.returns
-returns c =
+pub returns-clause-out_after : goal.returns-clause-out_after
+returns-clause-out_after c =
     let l = c.loop-i in
     let z = blocks_end l.k c.args.coverings.now l.i (omega arith) in
-    let y = ap length z in
-record { value = omega arith; out_after = sym (ap (λ x. stamp l.p x l.out) z ∙ stamp_none l.p l.out) ∙ l.invariant.5 }
+    sym (ap (λ x. stamp l.p x l.out) z ∙ stamp_none l.p l.out) ∙ l.invariant.5

@@ -1,31 +1,18 @@
 -- `sheet_render::sheet_length` meets its contract. Assumes nothing.
-use Prim.Native.Nat.{◌-◌}
 use native.Mathlib.Omega.{arith}
 use Rattle.text.proofs.Stamp.{width_le}
-use Rattle.places.proofs.Sides.{Passed, passed}
+use Rattle.places.proofs.Sides.{passed}
 use Rattle.sheet_render.proofs.Pieces.{sheet_length}
 use Rattle.sheet_render.proofs.sheet_length.Goals as goal
 
 pub width-a-requires : goal.width-a-requires
-width-a-requires c =
-    let good : Passed c.args.height c.args.width c.args.levels = passed c.args.height c.args.width c.args.levels c.requires.0.0 c.requires.0.1 in
-    omega (arith, good.tall)
+width-a-requires c = omega (arith, (passed c.args.height c.args.width c.args.levels c.requires.width_value.0 c.requires.width_value.1).tall)
 
 pub width-b-requires : goal.width-b-requires
-width-b-requires c =
-    let good : Passed c.args.height c.args.width c.args.levels = passed c.args.height c.args.width c.args.levels c.requires.0.0 c.requires.0.1 in
-    omega (arith, good.wide)
+width-b-requires c = omega (arith, (passed c.args.height c.args.width c.args.levels c.requires.width_value.0 c.requires.width_value.1).wide)
 
 pub width-c-requires : goal.width-c-requires
-width-c-requires c =
-    let good : Passed c.args.height c.args.width c.args.levels = passed c.args.height c.args.width c.args.levels c.requires.0.0 c.requires.0.1 in
-    omega (arith, good.few)
-
-pub blocks_length-d-requires : goal.blocks_length-d-requires
-blocks_length-d-requires c = (c.requires.0, c.requires.1.1)
-
-pub entries_length-e-requires : goal.entries_length-e-requires
-entries_length-e-requires c = (c.requires.0, c.requires.1.0)
+width-c-requires c = omega (arith, (passed c.args.height c.args.width c.args.levels c.requires.width_value.0 c.requires.width_value.1).few)
 
 pub overflow_add-result : goal.overflow_add-result
 overflow_add-result c = omega (arith, c.width-a.ensures, c.width-b.ensures, c.width-c.ensures, width_le 10 c.args.height, width_le 10 c.args.width, width_le 10 c.args.levels, c.blocks_length-d.ensures.1, c.entries_length-e.ensures.1)

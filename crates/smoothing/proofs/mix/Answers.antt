@@ -12,15 +12,6 @@ use Rattle.smoothing.specs.Mixed.{mixed_of}
 use Rattle.smoothing.proofs.Cells.{columns_none, columns_next, columns_all}
 use Rattle.smoothing.proofs.mix.Goals as goal
 
--- the plane that is mixed, as a slice and as an image
-abbrev all : goal.Start → List ℤ
-all s = mixed_of s.args.levels s.args.height s.args.width s.args.step s.args.plane.now s.args.decomposed.now
-
-abbrev image : goal.Start → Image
-image s y x =
-    pos 16 *ℤ image_of s.args.height s.args.plane.now y x
-    -ℤ pos s.args.step *ℤ masked s.args.levels s.args.height s.args.width (image_of s.args.height s.args.plane.now) (image_of s.args.height s.args.decomposed.now) y x
-
 pub overflow_shr-tall : goal.overflow_shr-tall
 overflow_shr-tall c = omega (arith, c.requires.0.0)
 
@@ -28,11 +19,11 @@ pub overflow_shr-wide : goal.overflow_shr-wide
 overflow_shr-wide c = omega (arith, c.requires.0.0)
 
 pub loop-col-init : goal.loop-col-init
-loop-col-init c = (omega arith, c.requires.1.0.2, columns_none c.args.height (all c) c.args.out.now)
+loop-col-init c = (omega arith, c.requires.1.0.2, columns_none c.args.height (mixed_of c.args.levels c.args.height c.args.width c.args.step c.args.plane.now c.args.decomposed.now) c.args.out.now)
 
 pub mix_column-requires : goal.mix_column-requires
 mix_column-requires c =
-    record { col_lt_width = (((omega arith, c.requires.0.1, c.requires.0.2, halved_shift c.args.levels c.args.height, halved_shift c.args.levels c.args.width, c.requires.0.3), ((c.requires.1.0.0, c.requires.1.0.1, c.loop-col.invariant.1), c.requires.1.1))).0; plane_len = (((omega arith, c.requires.0.1, c.requires.0.2, halved_shift c.args.levels c.args.height, halved_shift c.args.levels c.args.width, c.requires.0.3), ((c.requires.1.0.0, c.requires.1.0.1, c.loop-col.invariant.1), c.requires.1.1))).1; by_index = (((omega arith, c.requires.0.1, c.requires.0.2, halved_shift c.args.levels c.args.height, halved_shift c.args.levels c.args.width, c.requires.0.3), ((c.requires.1.0.0, c.requires.1.0.1, c.loop-col.invariant.1), c.requires.1.1))).2 }
+    record { col_lt_width = (omega arith, c.requires.0.1, c.requires.0.2, halved_shift c.args.levels c.args.height, halved_shift c.args.levels c.args.width, c.requires.0.3); plane_len = (c.requires.1.0.0, c.requires.1.0.1, c.loop-col.invariant.1); by_index = c.requires.1.1 }
 
 pub overflow_add-col : goal.overflow_add-col
 overflow_add-col c = omega (arith, c.requires.0.2)
@@ -42,11 +33,10 @@ loop-col-smaller c = omega arith
 
 pub loop-col-preserved : goal.loop-col-preserved
 loop-col-preserved c =
-    let s = c.before.before.before.before.before in
     let l = c.loop-col in (
       omega arith,
       c.mix_column.auto.1.1.1.1.1.1.1.1.1.0 ∙ l.invariant.1,
-      columns_next c.args.height l.col (all s) c.args.out.now (c.mix_column.ensures c.args.out.now c.requires.1.0.2 l.invariant.2),
+      columns_next c.args.height l.col (mixed_of c.args.levels c.args.height c.args.width c.args.step c.args.plane.now c.args.decomposed.now) c.args.out.now (c.mix_column.ensures c.args.out.now c.requires.1.0.2 l.invariant.2),
     )
 
 pub shape_of-out : goal.shape_of-out
@@ -54,6 +44,6 @@ shape_of-out c = c.loop-col.invariant.1 ∙ sym c.requires.1.0.2
 
 pub returns : goal.returns
 returns c =
-    let s = c.before.before in
     let l = c.loop-col in
-    columns_all c.args.height c.args.width l.col (image s) c.args.out.now c.requires.1.0.2 (omega arith) l.invariant.2
+    columns_all c.args.height c.args.width l.col (λ y x. pos 16 *ℤ image_of c.args.height c.args.plane.now y x
+    -ℤ pos c.args.step *ℤ masked c.args.levels c.args.height c.args.width (image_of c.args.height c.args.plane.now) (image_of c.args.height c.args.decomposed.now) y x) c.args.out.now c.requires.1.0.2 (omega arith) l.invariant.2

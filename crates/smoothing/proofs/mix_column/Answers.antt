@@ -17,10 +17,6 @@ use Rattle.smoothing.specs.Mixed.{mixed_of}
 use Rattle.smoothing.proofs.Runs.{upper, lower, rows-most, rows_inside, rest-inside, rest-ends}
 use Rattle.smoothing.proofs.mix_column.Goals as goal
 
--- all of the plane that is restored
-abbrev all : goal.Start → List ℤ
-all s = mixed_of s.args.levels s.args.height s.args.width s.args.step s.args.plane.now s.args.decomposed.now
-
 pub overflow_mul-first : goal.overflow_mul-first
 overflow_mul-first c =
     let small : c.args.width * c.args.height ≤ 262144 = mul-le-mul c.requires.0.2 c.requires.0.1 in
@@ -33,19 +29,21 @@ pub mix_run-requires : goal.mix_run-requires
 mix_run-requires c =
     let small : c.args.width * c.args.height ≤ 262144 = mul-le-mul c.requires.0.2 c.requires.0.1 in
     let rows : (let a = c.args in c.low_rows-low.result ≡ cond (ltb a.col (halved a.levels a.width)) (halved a.levels a.height) 0) = c.low_rows-low.ensures ∙ λ i. cond (ltb c.args.col (c.requires.0.4 i)) (c.requires.0.3 i) 0 in
-    let s = c.before.before in record { count_in_bounds = (
+    record {
+      count_in_bounds = (
         omega (arith, c.requires.1.0.2, rows_inside c.args.levels c.args.height c.args.width c.args.step c.args.plane.now c.args.decomposed.now c.args.col c.requires.0.0 c.low_rows-low.result rows),
         omega (arith, c.requires.1.0.2, small),
         c.requires.1.0.0 ∙ sym c.requires.1.0.2,
         c.requires.1.0.1 ∙ sym c.requires.1.0.2,
         c.requires.0.5,
-      ); by_index = ((λ k l. c.requires.1.1.0 k (omega (arith, c.requires.1.0.2))), (λ k l. c.requires.1.1.1 k (omega (arith, c.requires.1.0.2)))) }
+      );
+      by_index = ((λ k l. c.requires.1.1.0 k (omega (arith, c.requires.1.0.2))), (λ k l. c.requires.1.1.1 k (omega (arith, c.requires.1.0.2))));
+    }
 
 pub overflow_add-first : goal.overflow_add-first
 overflow_add-first c =
     let small : c.args.width * c.args.height ≤ 262144 = mul-le-mul c.requires.0.2 c.requires.0.1 in
     let rows : (let a = c.args in c.low_rows-low.result ≡ cond (ltb a.col (halved a.levels a.width)) (halved a.levels a.height) 0) = c.low_rows-low.ensures ∙ λ i. cond (ltb c.args.col (c.requires.0.4 i)) (c.requires.0.3 i) 0 in
-    let s = c.before.before.before.before in
     omega (arith, small, rows_inside c.args.levels c.args.height c.args.width c.args.step c.args.plane.now c.args.decomposed.now c.args.col c.requires.0.0 c.low_rows-low.result rows)
 
 pub overflow_sub-height : goal.overflow_sub-height
@@ -57,28 +55,29 @@ pub mix_run-requires-2 : goal.mix_run-requires-2
 mix_run-requires-2 c =
     let small : c.args.width * c.args.height ≤ 262144 = mul-le-mul c.requires.0.2 c.requires.0.1 in
     let rows : (let a = c.args in c.low_rows-low.result ≡ cond (ltb a.col (halved a.levels a.width)) (halved a.levels a.height) 0) = c.low_rows-low.ensures ∙ λ i. cond (ltb c.args.col (c.requires.0.4 i)) (c.requires.0.3 i) 0 in
-    let s = c.before.before.before.before.before in
-    let e = c.mix_run.auto.1.1.1.1.1.1.0 ∙ c.requires.1.0.2 in record { count_in_bounds = (
+    let e = c.mix_run.auto.1.1.1.1.1.1.0 ∙ c.requires.1.0.2 in record {
+      count_in_bounds = (
         omega (arith, e, rest-inside c.args.levels c.args.height c.args.width c.args.step c.args.plane.now c.args.decomposed.now c.args.col c.requires.0.0 c.low_rows-low.result rows),
         omega (arith, e, small),
         c.requires.1.0.0 ∙ sym e,
         c.requires.1.0.1 ∙ sym e,
         c.requires.0.5,
-      ); by_index = ((λ k l. c.requires.1.1.0 k (omega (arith, e))), (λ k l. c.requires.1.1.1 k (omega (arith, e)))) }
+      );
+      by_index = ((λ k l. c.requires.1.1.0 k (omega (arith, e))), (λ k l. c.requires.1.1.1 k (omega (arith, e))));
+    }
 
 pub shape_of-out : goal.shape_of-out
 shape_of-out c = c.mix_run-2.auto.1.1.1.1.1.1.0 ∙ c.mix_run.auto.1.1.1.1.1.1.0
 
 pub returns : goal.returns
 returns c =
-    let all_long : length (all c) ≡ c.args.width * c.args.height = slice_length c.args.height c.args.width (λ y x. pos 16 *ℤ image_of c.args.height c.args.plane.now y x -ℤ pos c.args.step *ℤ masked c.args.levels c.args.height c.args.width (image_of c.args.height c.args.plane.now) (image_of c.args.height c.args.decomposed.now) y x) in
+    let all_long : length (mixed_of c.args.levels c.args.height c.args.width c.args.step c.args.plane.now c.args.decomposed.now) ≡ c.args.width * c.args.height = slice_length c.args.height c.args.width (λ y x. pos 16 *ℤ image_of c.args.height c.args.plane.now y x -ℤ pos c.args.step *ℤ masked c.args.levels c.args.height c.args.width (image_of c.args.height c.args.plane.now) (image_of c.args.height c.args.decomposed.now) y x) in
     let rows : (let a = c.args in c.low_rows-low.result ≡ cond (ltb a.col (halved a.levels a.width)) (halved a.levels a.height) 0) = c.low_rows-low.ensures ∙ λ i. cond (ltb c.args.col (c.requires.0.4 i)) (c.requires.0.3 i) 0 in
-    let s = c.before.before.before.before.before.before.before in
     let n = c.low_rows-low.result in
     let r = rows in
     λ old l e.
-    c.mix_run-2.ensures (all s) old
+    c.mix_run-2.ensures (mixed_of c.args.levels c.args.height c.args.width c.args.step c.args.plane.now c.args.decomposed.now) old
     (lower c.args.levels c.args.height c.args.width c.args.step c.args.plane.now c.args.decomposed.now c.args.col c.requires.0.0 n r) (all_long ∙ sym l) (l ∙ sym c.requires.1.0.2 ∙ sym c.mix_run.auto.1.1.1.1.1.1.0)
-    (c.mix_run.ensures (all s) old
+    (c.mix_run.ensures (mixed_of c.args.levels c.args.height c.args.width c.args.step c.args.plane.now c.args.decomposed.now) old
     (upper c.args.levels c.args.height c.args.width c.args.step c.args.plane.now c.args.decomposed.now c.args.col c.requires.0.0 n r) (all_long ∙ sym l) (l ∙ sym c.requires.1.0.2) e)
-    ∙ ap (half (all s) old) (rest-ends c.args.levels c.args.height c.args.width c.args.step c.args.plane.now c.args.decomposed.now c.args.col c.requires.0.0 n r)
+    ∙ ap (half (mixed_of c.args.levels c.args.height c.args.width c.args.step c.args.plane.now c.args.decomposed.now) old) (rest-ends c.args.levels c.args.height c.args.width c.args.step c.args.plane.now c.args.decomposed.now c.args.col c.requires.0.0 n r)

@@ -9,14 +9,14 @@ use Rattle.integers.specs.Zero.{is_zero}
 use Rattle.smoothing.proofs.Cells.{entry_first, entry_second, entry_fit, entry_is}
 use Rattle.smoothing.proofs.mixed_entry.Goals as goal
 
--- what is subtracted p times
-abbrev moved : goal.Start → ℤ
-moved s = cond (s.args.low || not (is_zero s.args.z)) (pos 0) s.args.d
-
-moved_is : (c : goal.After-unless-moved) → c.unless-moved.result ≡ moved c.before.before
+moved_is : (c : goal.After-unless-moved) → c.unless-moved.result ≡ (cond (c.args.low || not (is_zero c.args.z)) (pos 0) c.args.d)
 moved_is c =
     let zero = c.is_zero.ensures ∙ ap is_zero (to_z-of_z c.ranges.z) in
     c.unless-moved.ensures ∙ λ i. cond (c.args.low || not (zero i)) (pos 0) (to_z-of_z c.ranges.d i)
+
+moved_small : (b : Bool) (d : ℤ) → nat_abs d ≤ 2 ^ 40 → nat_abs (cond b (pos 0) d) ≤ 2 ^ 40
+moved_small true d h = omega arith
+moved_small false d h = h
 
 pub is_zero-requires : goal.is_zero-requires
 is_zero-requires c = tt
@@ -26,36 +26,20 @@ unless-moved-requires c = tt
 
 pub overflow_mul-result : goal.overflow_mul-result
 overflow_mul-result c =
-    let moved_small : nat_abs (moved c) ≤ 2 ^ 40 = go (c.args.low || not (is_zero c.args.z))
-  where
-    go : (b : Bool) → nat_abs (cond b (pos 0) c.args.d) ≤ 2 ^ 40
-    go true = omega arith
-    go false = c.requires.1 in
-    let s = c.before.before in entry_first c.args.z c.args.step (moved s) c.ranges.z c.requires.0 c.requires.2 (moved_is c) moved_small
+    let small : nat_abs (cond (c.args.low || not (is_zero c.args.z)) (pos 0) c.args.d) ≤ 2 ^ 40 = moved_small (c.args.low || not (is_zero c.args.z)) c.args.d c.requires.1 in
+    entry_first c.args.z c.args.step (cond (c.args.low || not (is_zero c.args.z)) (pos 0) c.args.d) c.ranges.z c.requires.0 c.requires.2 (moved_is c) small
 
 pub overflow_mul-result-2 : goal.overflow_mul-result-2
 overflow_mul-result-2 c =
-    let moved_small : nat_abs (moved c) ≤ 2 ^ 40 = go (c.args.low || not (is_zero c.args.z))
-  where
-    go : (b : Bool) → nat_abs (cond b (pos 0) c.args.d) ≤ 2 ^ 40
-    go true = omega arith
-    go false = c.requires.1 in
-    let s = c.before.before in entry_second c.args.z c.args.step (moved s) c.ranges.z c.requires.0 c.requires.2 (moved_is c) moved_small
+    let small : nat_abs (cond (c.args.low || not (is_zero c.args.z)) (pos 0) c.args.d) ≤ 2 ^ 40 = moved_small (c.args.low || not (is_zero c.args.z)) c.args.d c.requires.1 in
+    entry_second c.args.z c.args.step (cond (c.args.low || not (is_zero c.args.z)) (pos 0) c.args.d) c.ranges.z c.requires.0 c.requires.2 (moved_is c) small
 
 pub overflow_sub-result : goal.overflow_sub-result
 overflow_sub-result c =
-    let moved_small : nat_abs (moved c) ≤ 2 ^ 40 = go (c.args.low || not (is_zero c.args.z))
-  where
-    go : (b : Bool) → nat_abs (cond b (pos 0) c.args.d) ≤ 2 ^ 40
-    go true = omega arith
-    go false = c.requires.1 in
-    let s = c.before.before in entry_fit c.args.z c.args.step (moved s) c.ranges.z c.requires.0 c.requires.2 (moved_is c) moved_small
+    let small : nat_abs (cond (c.args.low || not (is_zero c.args.z)) (pos 0) c.args.d) ≤ 2 ^ 40 = moved_small (c.args.low || not (is_zero c.args.z)) c.args.d c.requires.1 in
+    entry_fit c.args.z c.args.step (cond (c.args.low || not (is_zero c.args.z)) (pos 0) c.args.d) c.ranges.z c.requires.0 c.requires.2 (moved_is c) small
 
 pub returns : goal.returns
 returns c =
-    let moved_small : nat_abs (moved c) ≤ 2 ^ 40 = go (c.args.low || not (is_zero c.args.z))
-  where
-    go : (b : Bool) → nat_abs (cond b (pos 0) c.args.d) ≤ 2 ^ 40
-    go true = omega arith
-    go false = c.requires.1 in
-    let s = c.before.before in entry_is c.args.z c.args.step (moved s) c.ranges.z c.requires.0 c.requires.2 (moved_is c) moved_small
+    let small : nat_abs (cond (c.args.low || not (is_zero c.args.z)) (pos 0) c.args.d) ≤ 2 ^ 40 = moved_small (c.args.low || not (is_zero c.args.z)) c.args.d c.requires.1 in
+    entry_is c.args.z c.args.step (cond (c.args.low || not (is_zero c.args.z)) (pos 0) c.args.d) c.ranges.z c.requires.0 c.requires.2 (moved_is c) small

@@ -14,25 +14,6 @@ use Rattle.variation.proofs.Sizes.{against_abs}
 use Rattle.smoothing.proofs.Cells.{two_fit, three_fit, four_fit, twice_fit, twice_is, slope_is}
 use Rattle.smoothing.proofs.slope.Goals as goal
 
--- an entry, and the signs against the four neighbours
-abbrev entry : goal.Start → ℕ → ℤ
-entry s n = get_or s.args.values.now n (pos 0)
-
-abbrev here : goal.Start → ℕ
-here s = s.args.col * s.args.height + s.args.row
-
-abbrev above : goal.Start → ℤ
-above s = against (ltb 0 s.args.row) (entry s (here s)) (entry s (here s - 1))
-
-abbrev below : goal.Start → ℤ
-below s = against (ltb (s.args.row + 1) s.args.height) (entry s (here s)) (entry s (here s + 1))
-
-abbrev left : goal.Start → ℤ
-left s = against (ltb 0 s.args.col) (entry s (here s)) (entry s (here s - s.args.height))
-
-abbrev right : goal.Start → ℤ
-right s = against (ltb (s.args.col + 1) s.args.width) (entry s (here s)) (entry s (here s + s.args.height))
-
 pub overflow_mul-k : goal.overflow_mul-k
 overflow_mul-k c =
     let inside : c.args.col * c.args.height + c.args.row < length c.args.values.now = omega (arith, index_bound c.args.col c.args.row c.args.width c.args.height c.requires.1 c.requires.0, c.requires.4) in
@@ -56,13 +37,13 @@ overflow_add-row c = omega (arith, c.requires.0, c.requires.2)
 pub against_behind-below-requires : goal.against_behind-below-requires
 against_behind-below-requires c =
     let inside : c.args.col * c.args.height + c.args.row < length c.args.values.now = omega (arith, index_bound c.args.col c.args.row c.args.width c.args.height c.requires.1 c.requires.0, c.requires.4) in
-    let next_row : ltb (c.args.row + 1) c.args.height ≡ true → here c + 1 < length c.args.values.now = λ t. omega (arith, index_bound c.args.col (c.args.row + 1) c.args.width c.args.height c.requires.1 (ltb-true (c.args.row + 1) c.args.height t), c.requires.4) in
-    let s = c.before in (inside, next_row)
+    let next_row : ltb (c.args.row + 1) c.args.height ≡ true → (c.args.col * c.args.height + c.args.row) + 1 < length c.args.values.now = λ t. omega (arith, index_bound c.args.col (c.args.row + 1) c.args.width c.args.height c.requires.1 (ltb-true (c.args.row + 1) c.args.height t), c.requires.4) in
+    (inside, next_row)
 
 pub against_before-left-requires : goal.against_before-left-requires
 against_before-left-requires c =
     let inside : c.args.col * c.args.height + c.args.row < length c.args.values.now = omega (arith, index_bound c.args.col c.args.row c.args.width c.args.height c.requires.1 c.requires.0, c.requires.4) in
-    let s = c.before.before in (inside, λ t. omega (arith, mul-le-mul_right c.args.height (ltb-true 0 c.args.col t)))
+    (inside, λ t. omega (arith, mul-le-mul_right c.args.height (ltb-true 0 c.args.col t)))
 
 pub overflow_add-col : goal.overflow_add-col
 overflow_add-col c = omega (arith, c.requires.1, c.requires.3)
@@ -70,51 +51,46 @@ overflow_add-col c = omega (arith, c.requires.1, c.requires.3)
 pub against_behind-right-requires : goal.against_behind-right-requires
 against_behind-right-requires c =
     let inside : c.args.col * c.args.height + c.args.row < length c.args.values.now = omega (arith, index_bound c.args.col c.args.row c.args.width c.args.height c.requires.1 c.requires.0, c.requires.4) in
-    let next_column : ltb (c.args.col + 1) c.args.width ≡ true → here c + c.args.height < length c.args.values.now = λ t. omega (arith, index_bound (c.args.col + 1) c.args.row c.args.width c.args.height (ltb-true (c.args.col + 1) c.args.width t) c.requires.0, add-mul c.args.col 1 c.args.height, c.requires.4) in
-    let s = c.before.before.before in (inside, next_column)
+    let next_column : ltb (c.args.col + 1) c.args.width ≡ true → (c.args.col * c.args.height + c.args.row) + c.args.height < length c.args.values.now = λ t. omega (arith, index_bound (c.args.col + 1) c.args.row c.args.width c.args.height (ltb-true (c.args.col + 1) c.args.width t) c.requires.0, add-mul c.args.col 1 c.args.height, c.requires.4) in
+    (inside, next_column)
 
 pub overflow_add-result : goal.overflow_add-result
 overflow_add-result c =
-    let above_small : nat_abs (above c) ≤ 1 = against_abs (ltb 0 c.args.row) (entry c (here c)) (entry c (here c - 1)) in
-    let below_small : nat_abs (below c) ≤ 1 = against_abs (ltb (c.args.row + 1) c.args.height) (entry c (here c)) (entry c (here c + 1)) in
-    let left_small : nat_abs (left c) ≤ 1 = against_abs (ltb 0 c.args.col) (entry c (here c)) (entry c (here c - c.args.height)) in
-    let right_small : nat_abs (right c) ≤ 1 = against_abs (ltb (c.args.col + 1) c.args.width) (entry c (here c)) (entry c (here c + c.args.height)) in
-    let s = c.before.before.before.before in
-    two_fit (above s) (below s) (left s) (right s) c.against_before-above.ensures c.against_behind-below.ensures c.against_before-left.ensures c.against_behind-right.ensures above_small below_small left_small right_small
+    let above_small : nat_abs (against (ltb 0 c.args.row) ((λ n. get_or c.args.values.now n (pos 0)) (c.args.col * c.args.height + c.args.row)) ((λ n. get_or c.args.values.now n (pos 0)) ((c.args.col * c.args.height + c.args.row) - 1))) ≤ 1 = against_abs (ltb 0 c.args.row) ((λ n. get_or c.args.values.now n (pos 0)) (c.args.col * c.args.height + c.args.row)) ((λ n. get_or c.args.values.now n (pos 0)) ((c.args.col * c.args.height + c.args.row) - 1)) in
+    let below_small : nat_abs (against (ltb (c.args.row + 1) c.args.height) ((λ n. get_or c.args.values.now n (pos 0)) (c.args.col * c.args.height + c.args.row)) ((λ n. get_or c.args.values.now n (pos 0)) ((c.args.col * c.args.height + c.args.row) + 1))) ≤ 1 = against_abs (ltb (c.args.row + 1) c.args.height) ((λ n. get_or c.args.values.now n (pos 0)) (c.args.col * c.args.height + c.args.row)) ((λ n. get_or c.args.values.now n (pos 0)) ((c.args.col * c.args.height + c.args.row) + 1)) in
+    let left_small : nat_abs (against (ltb 0 c.args.col) ((λ n. get_or c.args.values.now n (pos 0)) (c.args.col * c.args.height + c.args.row)) ((λ n. get_or c.args.values.now n (pos 0)) ((c.args.col * c.args.height + c.args.row) - c.args.height))) ≤ 1 = against_abs (ltb 0 c.args.col) ((λ n. get_or c.args.values.now n (pos 0)) (c.args.col * c.args.height + c.args.row)) ((λ n. get_or c.args.values.now n (pos 0)) ((c.args.col * c.args.height + c.args.row) - c.args.height)) in
+    let right_small : nat_abs (against (ltb (c.args.col + 1) c.args.width) ((λ n. get_or c.args.values.now n (pos 0)) (c.args.col * c.args.height + c.args.row)) ((λ n. get_or c.args.values.now n (pos 0)) ((c.args.col * c.args.height + c.args.row) + c.args.height))) ≤ 1 = against_abs (ltb (c.args.col + 1) c.args.width) ((λ n. get_or c.args.values.now n (pos 0)) (c.args.col * c.args.height + c.args.row)) ((λ n. get_or c.args.values.now n (pos 0)) ((c.args.col * c.args.height + c.args.row) + c.args.height)) in
+    two_fit (against (ltb 0 c.args.row) ((λ n. get_or c.args.values.now n (pos 0)) (c.args.col * c.args.height + c.args.row)) ((λ n. get_or c.args.values.now n (pos 0)) ((c.args.col * c.args.height + c.args.row) - 1))) (against (ltb (c.args.row + 1) c.args.height) ((λ n. get_or c.args.values.now n (pos 0)) (c.args.col * c.args.height + c.args.row)) ((λ n. get_or c.args.values.now n (pos 0)) ((c.args.col * c.args.height + c.args.row) + 1))) (against (ltb 0 c.args.col) ((λ n. get_or c.args.values.now n (pos 0)) (c.args.col * c.args.height + c.args.row)) ((λ n. get_or c.args.values.now n (pos 0)) ((c.args.col * c.args.height + c.args.row) - c.args.height))) (against (ltb (c.args.col + 1) c.args.width) ((λ n. get_or c.args.values.now n (pos 0)) (c.args.col * c.args.height + c.args.row)) ((λ n. get_or c.args.values.now n (pos 0)) ((c.args.col * c.args.height + c.args.row) + c.args.height))) c.against_before-above.ensures c.against_behind-below.ensures c.against_before-left.ensures c.against_behind-right.ensures above_small below_small left_small right_small
 
 pub overflow_add-result-2 : goal.overflow_add-result-2
 overflow_add-result-2 c =
-    let above_small : nat_abs (above c) ≤ 1 = against_abs (ltb 0 c.args.row) (entry c (here c)) (entry c (here c - 1)) in
-    let below_small : nat_abs (below c) ≤ 1 = against_abs (ltb (c.args.row + 1) c.args.height) (entry c (here c)) (entry c (here c + 1)) in
-    let left_small : nat_abs (left c) ≤ 1 = against_abs (ltb 0 c.args.col) (entry c (here c)) (entry c (here c - c.args.height)) in
-    let right_small : nat_abs (right c) ≤ 1 = against_abs (ltb (c.args.col + 1) c.args.width) (entry c (here c)) (entry c (here c + c.args.height)) in
-    let s = c.before.before.before.before in
-    three_fit (above s) (below s) (left s) (right s) c.against_before-above.ensures c.against_behind-below.ensures c.against_before-left.ensures c.against_behind-right.ensures above_small below_small left_small right_small
+    let above_small : nat_abs (against (ltb 0 c.args.row) ((λ n. get_or c.args.values.now n (pos 0)) (c.args.col * c.args.height + c.args.row)) ((λ n. get_or c.args.values.now n (pos 0)) ((c.args.col * c.args.height + c.args.row) - 1))) ≤ 1 = against_abs (ltb 0 c.args.row) ((λ n. get_or c.args.values.now n (pos 0)) (c.args.col * c.args.height + c.args.row)) ((λ n. get_or c.args.values.now n (pos 0)) ((c.args.col * c.args.height + c.args.row) - 1)) in
+    let below_small : nat_abs (against (ltb (c.args.row + 1) c.args.height) ((λ n. get_or c.args.values.now n (pos 0)) (c.args.col * c.args.height + c.args.row)) ((λ n. get_or c.args.values.now n (pos 0)) ((c.args.col * c.args.height + c.args.row) + 1))) ≤ 1 = against_abs (ltb (c.args.row + 1) c.args.height) ((λ n. get_or c.args.values.now n (pos 0)) (c.args.col * c.args.height + c.args.row)) ((λ n. get_or c.args.values.now n (pos 0)) ((c.args.col * c.args.height + c.args.row) + 1)) in
+    let left_small : nat_abs (against (ltb 0 c.args.col) ((λ n. get_or c.args.values.now n (pos 0)) (c.args.col * c.args.height + c.args.row)) ((λ n. get_or c.args.values.now n (pos 0)) ((c.args.col * c.args.height + c.args.row) - c.args.height))) ≤ 1 = against_abs (ltb 0 c.args.col) ((λ n. get_or c.args.values.now n (pos 0)) (c.args.col * c.args.height + c.args.row)) ((λ n. get_or c.args.values.now n (pos 0)) ((c.args.col * c.args.height + c.args.row) - c.args.height)) in
+    let right_small : nat_abs (against (ltb (c.args.col + 1) c.args.width) ((λ n. get_or c.args.values.now n (pos 0)) (c.args.col * c.args.height + c.args.row)) ((λ n. get_or c.args.values.now n (pos 0)) ((c.args.col * c.args.height + c.args.row) + c.args.height))) ≤ 1 = against_abs (ltb (c.args.col + 1) c.args.width) ((λ n. get_or c.args.values.now n (pos 0)) (c.args.col * c.args.height + c.args.row)) ((λ n. get_or c.args.values.now n (pos 0)) ((c.args.col * c.args.height + c.args.row) + c.args.height)) in
+    three_fit (against (ltb 0 c.args.row) ((λ n. get_or c.args.values.now n (pos 0)) (c.args.col * c.args.height + c.args.row)) ((λ n. get_or c.args.values.now n (pos 0)) ((c.args.col * c.args.height + c.args.row) - 1))) (against (ltb (c.args.row + 1) c.args.height) ((λ n. get_or c.args.values.now n (pos 0)) (c.args.col * c.args.height + c.args.row)) ((λ n. get_or c.args.values.now n (pos 0)) ((c.args.col * c.args.height + c.args.row) + 1))) (against (ltb 0 c.args.col) ((λ n. get_or c.args.values.now n (pos 0)) (c.args.col * c.args.height + c.args.row)) ((λ n. get_or c.args.values.now n (pos 0)) ((c.args.col * c.args.height + c.args.row) - c.args.height))) (against (ltb (c.args.col + 1) c.args.width) ((λ n. get_or c.args.values.now n (pos 0)) (c.args.col * c.args.height + c.args.row)) ((λ n. get_or c.args.values.now n (pos 0)) ((c.args.col * c.args.height + c.args.row) + c.args.height))) c.against_before-above.ensures c.against_behind-below.ensures c.against_before-left.ensures c.against_behind-right.ensures above_small below_small left_small right_small
 
 pub overflow_add-result-3 : goal.overflow_add-result-3
 overflow_add-result-3 c =
-    let above_small : nat_abs (above c) ≤ 1 = against_abs (ltb 0 c.args.row) (entry c (here c)) (entry c (here c - 1)) in
-    let below_small : nat_abs (below c) ≤ 1 = against_abs (ltb (c.args.row + 1) c.args.height) (entry c (here c)) (entry c (here c + 1)) in
-    let left_small : nat_abs (left c) ≤ 1 = against_abs (ltb 0 c.args.col) (entry c (here c)) (entry c (here c - c.args.height)) in
-    let right_small : nat_abs (right c) ≤ 1 = against_abs (ltb (c.args.col + 1) c.args.width) (entry c (here c)) (entry c (here c + c.args.height)) in
-    let s = c.before.before.before.before in
-    four_fit (above s) (below s) (left s) (right s) c.against_before-above.ensures c.against_behind-below.ensures c.against_before-left.ensures c.against_behind-right.ensures above_small below_small left_small right_small
+    let above_small : nat_abs (against (ltb 0 c.args.row) ((λ n. get_or c.args.values.now n (pos 0)) (c.args.col * c.args.height + c.args.row)) ((λ n. get_or c.args.values.now n (pos 0)) ((c.args.col * c.args.height + c.args.row) - 1))) ≤ 1 = against_abs (ltb 0 c.args.row) ((λ n. get_or c.args.values.now n (pos 0)) (c.args.col * c.args.height + c.args.row)) ((λ n. get_or c.args.values.now n (pos 0)) ((c.args.col * c.args.height + c.args.row) - 1)) in
+    let below_small : nat_abs (against (ltb (c.args.row + 1) c.args.height) ((λ n. get_or c.args.values.now n (pos 0)) (c.args.col * c.args.height + c.args.row)) ((λ n. get_or c.args.values.now n (pos 0)) ((c.args.col * c.args.height + c.args.row) + 1))) ≤ 1 = against_abs (ltb (c.args.row + 1) c.args.height) ((λ n. get_or c.args.values.now n (pos 0)) (c.args.col * c.args.height + c.args.row)) ((λ n. get_or c.args.values.now n (pos 0)) ((c.args.col * c.args.height + c.args.row) + 1)) in
+    let left_small : nat_abs (against (ltb 0 c.args.col) ((λ n. get_or c.args.values.now n (pos 0)) (c.args.col * c.args.height + c.args.row)) ((λ n. get_or c.args.values.now n (pos 0)) ((c.args.col * c.args.height + c.args.row) - c.args.height))) ≤ 1 = against_abs (ltb 0 c.args.col) ((λ n. get_or c.args.values.now n (pos 0)) (c.args.col * c.args.height + c.args.row)) ((λ n. get_or c.args.values.now n (pos 0)) ((c.args.col * c.args.height + c.args.row) - c.args.height)) in
+    let right_small : nat_abs (against (ltb (c.args.col + 1) c.args.width) ((λ n. get_or c.args.values.now n (pos 0)) (c.args.col * c.args.height + c.args.row)) ((λ n. get_or c.args.values.now n (pos 0)) ((c.args.col * c.args.height + c.args.row) + c.args.height))) ≤ 1 = against_abs (ltb (c.args.col + 1) c.args.width) ((λ n. get_or c.args.values.now n (pos 0)) (c.args.col * c.args.height + c.args.row)) ((λ n. get_or c.args.values.now n (pos 0)) ((c.args.col * c.args.height + c.args.row) + c.args.height)) in
+    four_fit (against (ltb 0 c.args.row) ((λ n. get_or c.args.values.now n (pos 0)) (c.args.col * c.args.height + c.args.row)) ((λ n. get_or c.args.values.now n (pos 0)) ((c.args.col * c.args.height + c.args.row) - 1))) (against (ltb (c.args.row + 1) c.args.height) ((λ n. get_or c.args.values.now n (pos 0)) (c.args.col * c.args.height + c.args.row)) ((λ n. get_or c.args.values.now n (pos 0)) ((c.args.col * c.args.height + c.args.row) + 1))) (against (ltb 0 c.args.col) ((λ n. get_or c.args.values.now n (pos 0)) (c.args.col * c.args.height + c.args.row)) ((λ n. get_or c.args.values.now n (pos 0)) ((c.args.col * c.args.height + c.args.row) - c.args.height))) (against (ltb (c.args.col + 1) c.args.width) ((λ n. get_or c.args.values.now n (pos 0)) (c.args.col * c.args.height + c.args.row)) ((λ n. get_or c.args.values.now n (pos 0)) ((c.args.col * c.args.height + c.args.row) + c.args.height))) c.against_before-above.ensures c.against_behind-below.ensures c.against_before-left.ensures c.against_behind-right.ensures above_small below_small left_small right_small
 
 pub overflow_mul-result : goal.overflow_mul-result
 overflow_mul-result c =
-    let above_small : nat_abs (above c) ≤ 1 = against_abs (ltb 0 c.args.row) (entry c (here c)) (entry c (here c - 1)) in
-    let below_small : nat_abs (below c) ≤ 1 = against_abs (ltb (c.args.row + 1) c.args.height) (entry c (here c)) (entry c (here c + 1)) in
-    let left_small : nat_abs (left c) ≤ 1 = against_abs (ltb 0 c.args.col) (entry c (here c)) (entry c (here c - c.args.height)) in
-    let right_small : nat_abs (right c) ≤ 1 = against_abs (ltb (c.args.col + 1) c.args.width) (entry c (here c)) (entry c (here c + c.args.height)) in
-    let s = c.before.before.before.before in
-    twice_fit (above s) (below s) (left s) (right s) c.against_before-above.ensures c.against_behind-below.ensures c.against_before-left.ensures c.against_behind-right.ensures above_small below_small left_small right_small
+    let above_small : nat_abs (against (ltb 0 c.args.row) ((λ n. get_or c.args.values.now n (pos 0)) (c.args.col * c.args.height + c.args.row)) ((λ n. get_or c.args.values.now n (pos 0)) ((c.args.col * c.args.height + c.args.row) - 1))) ≤ 1 = against_abs (ltb 0 c.args.row) ((λ n. get_or c.args.values.now n (pos 0)) (c.args.col * c.args.height + c.args.row)) ((λ n. get_or c.args.values.now n (pos 0)) ((c.args.col * c.args.height + c.args.row) - 1)) in
+    let below_small : nat_abs (against (ltb (c.args.row + 1) c.args.height) ((λ n. get_or c.args.values.now n (pos 0)) (c.args.col * c.args.height + c.args.row)) ((λ n. get_or c.args.values.now n (pos 0)) ((c.args.col * c.args.height + c.args.row) + 1))) ≤ 1 = against_abs (ltb (c.args.row + 1) c.args.height) ((λ n. get_or c.args.values.now n (pos 0)) (c.args.col * c.args.height + c.args.row)) ((λ n. get_or c.args.values.now n (pos 0)) ((c.args.col * c.args.height + c.args.row) + 1)) in
+    let left_small : nat_abs (against (ltb 0 c.args.col) ((λ n. get_or c.args.values.now n (pos 0)) (c.args.col * c.args.height + c.args.row)) ((λ n. get_or c.args.values.now n (pos 0)) ((c.args.col * c.args.height + c.args.row) - c.args.height))) ≤ 1 = against_abs (ltb 0 c.args.col) ((λ n. get_or c.args.values.now n (pos 0)) (c.args.col * c.args.height + c.args.row)) ((λ n. get_or c.args.values.now n (pos 0)) ((c.args.col * c.args.height + c.args.row) - c.args.height)) in
+    let right_small : nat_abs (against (ltb (c.args.col + 1) c.args.width) ((λ n. get_or c.args.values.now n (pos 0)) (c.args.col * c.args.height + c.args.row)) ((λ n. get_or c.args.values.now n (pos 0)) ((c.args.col * c.args.height + c.args.row) + c.args.height))) ≤ 1 = against_abs (ltb (c.args.col + 1) c.args.width) ((λ n. get_or c.args.values.now n (pos 0)) (c.args.col * c.args.height + c.args.row)) ((λ n. get_or c.args.values.now n (pos 0)) ((c.args.col * c.args.height + c.args.row) + c.args.height)) in
+    twice_fit (against (ltb 0 c.args.row) ((λ n. get_or c.args.values.now n (pos 0)) (c.args.col * c.args.height + c.args.row)) ((λ n. get_or c.args.values.now n (pos 0)) ((c.args.col * c.args.height + c.args.row) - 1))) (against (ltb (c.args.row + 1) c.args.height) ((λ n. get_or c.args.values.now n (pos 0)) (c.args.col * c.args.height + c.args.row)) ((λ n. get_or c.args.values.now n (pos 0)) ((c.args.col * c.args.height + c.args.row) + 1))) (against (ltb 0 c.args.col) ((λ n. get_or c.args.values.now n (pos 0)) (c.args.col * c.args.height + c.args.row)) ((λ n. get_or c.args.values.now n (pos 0)) ((c.args.col * c.args.height + c.args.row) - c.args.height))) (against (ltb (c.args.col + 1) c.args.width) ((λ n. get_or c.args.values.now n (pos 0)) (c.args.col * c.args.height + c.args.row)) ((λ n. get_or c.args.values.now n (pos 0)) ((c.args.col * c.args.height + c.args.row) + c.args.height))) c.against_before-above.ensures c.against_behind-below.ensures c.against_before-left.ensures c.against_behind-right.ensures above_small below_small left_small right_small
 
 pub returns : goal.returns
 returns c =
-    let above_small : nat_abs (above c) ≤ 1 = against_abs (ltb 0 c.args.row) (entry c (here c)) (entry c (here c - 1)) in
-    let below_small : nat_abs (below c) ≤ 1 = against_abs (ltb (c.args.row + 1) c.args.height) (entry c (here c)) (entry c (here c + 1)) in
-    let left_small : nat_abs (left c) ≤ 1 = against_abs (ltb 0 c.args.col) (entry c (here c)) (entry c (here c - c.args.height)) in
-    let right_small : nat_abs (right c) ≤ 1 = against_abs (ltb (c.args.col + 1) c.args.width) (entry c (here c)) (entry c (here c + c.args.height)) in
-    let s = c.before.before.before.before in
-    twice_is (above s) (below s) (left s) (right s) c.against_before-above.ensures c.against_behind-below.ensures c.against_before-left.ensures c.against_behind-right.ensures above_small below_small left_small right_small
+    let above_small : nat_abs (against (ltb 0 c.args.row) ((λ n. get_or c.args.values.now n (pos 0)) (c.args.col * c.args.height + c.args.row)) ((λ n. get_or c.args.values.now n (pos 0)) ((c.args.col * c.args.height + c.args.row) - 1))) ≤ 1 = against_abs (ltb 0 c.args.row) ((λ n. get_or c.args.values.now n (pos 0)) (c.args.col * c.args.height + c.args.row)) ((λ n. get_or c.args.values.now n (pos 0)) ((c.args.col * c.args.height + c.args.row) - 1)) in
+    let below_small : nat_abs (against (ltb (c.args.row + 1) c.args.height) ((λ n. get_or c.args.values.now n (pos 0)) (c.args.col * c.args.height + c.args.row)) ((λ n. get_or c.args.values.now n (pos 0)) ((c.args.col * c.args.height + c.args.row) + 1))) ≤ 1 = against_abs (ltb (c.args.row + 1) c.args.height) ((λ n. get_or c.args.values.now n (pos 0)) (c.args.col * c.args.height + c.args.row)) ((λ n. get_or c.args.values.now n (pos 0)) ((c.args.col * c.args.height + c.args.row) + 1)) in
+    let left_small : nat_abs (against (ltb 0 c.args.col) ((λ n. get_or c.args.values.now n (pos 0)) (c.args.col * c.args.height + c.args.row)) ((λ n. get_or c.args.values.now n (pos 0)) ((c.args.col * c.args.height + c.args.row) - c.args.height))) ≤ 1 = against_abs (ltb 0 c.args.col) ((λ n. get_or c.args.values.now n (pos 0)) (c.args.col * c.args.height + c.args.row)) ((λ n. get_or c.args.values.now n (pos 0)) ((c.args.col * c.args.height + c.args.row) - c.args.height)) in
+    let right_small : nat_abs (against (ltb (c.args.col + 1) c.args.width) ((λ n. get_or c.args.values.now n (pos 0)) (c.args.col * c.args.height + c.args.row)) ((λ n. get_or c.args.values.now n (pos 0)) ((c.args.col * c.args.height + c.args.row) + c.args.height))) ≤ 1 = against_abs (ltb (c.args.col + 1) c.args.width) ((λ n. get_or c.args.values.now n (pos 0)) (c.args.col * c.args.height + c.args.row)) ((λ n. get_or c.args.values.now n (pos 0)) ((c.args.col * c.args.height + c.args.row) + c.args.height)) in
+    twice_is (against (ltb 0 c.args.row) ((λ n. get_or c.args.values.now n (pos 0)) (c.args.col * c.args.height + c.args.row)) ((λ n. get_or c.args.values.now n (pos 0)) ((c.args.col * c.args.height + c.args.row) - 1))) (against (ltb (c.args.row + 1) c.args.height) ((λ n. get_or c.args.values.now n (pos 0)) (c.args.col * c.args.height + c.args.row)) ((λ n. get_or c.args.values.now n (pos 0)) ((c.args.col * c.args.height + c.args.row) + 1))) (against (ltb 0 c.args.col) ((λ n. get_or c.args.values.now n (pos 0)) (c.args.col * c.args.height + c.args.row)) ((λ n. get_or c.args.values.now n (pos 0)) ((c.args.col * c.args.height + c.args.row) - c.args.height))) (against (ltb (c.args.col + 1) c.args.width) ((λ n. get_or c.args.values.now n (pos 0)) (c.args.col * c.args.height + c.args.row)) ((λ n. get_or c.args.values.now n (pos 0)) ((c.args.col * c.args.height + c.args.row) + c.args.height))) c.against_before-above.ensures c.against_behind-below.ensures c.against_before-left.ensures c.against_behind-right.ensures above_small below_small left_small right_small
     ∙ slope_is c.args.height c.args.width c.args.values.now c.args.row c.args.col refl refl refl refl

@@ -16,27 +16,17 @@ use Rattle.smoothing.specs.Mixed.{gradient_of}
 use Rattle.smoothing.proofs.Cells.{column_store}
 use Rattle.smoothing.proofs.slope_column.Goals as goal
 
--- where a cell of the column is
-inside : (s : goal.Start) (row : ℕ) → row < s.args.height → s.args.col * s.args.height + row < s.args.width * s.args.height
-inside s row l = index_bound s.args.col row s.args.width s.args.height s.requires.0 l
-
-small : (s : goal.Start) → s.args.width * s.args.height ≤ 262144
-small s = mul-le-mul s.requires.2 s.requires.1
-
--- the cell c a turn is in the slice
-cell : (c : goal.In-loop-row) → c.args.col * c.args.height + c.loop-row.row < c.args.width * c.args.height
-cell c = inside c.before.before c.loop-row.row (omega arith)
-
 -- what is stored
-stored : (c : goal.After-slope) → let s = c.before.before.before in
-    to_z w64 (of_z w64 c.slope.result) ≡ gradient c.args.height c.args.width (image_of c.args.height c.args.values.now) c.loop-row.row c.args.col
+stored : (c : goal.After-slope) → to_z w64 (of_z w64 c.slope.result) ≡ gradient c.args.height c.args.width (image_of c.args.height c.args.values.now) c.loop-row.row c.args.col
 stored c =
     read w64 c.slope.ensures
     (sfits64 (gradient c.args.height c.args.width (image_of c.args.height c.args.values.now) c.loop-row.row c.args.col)
     (omega (arith, gradient_abs c.args.height c.args.width (image_of c.args.height c.args.values.now) c.loop-row.row c.args.col)))
 
 pub overflow_mul-first : goal.overflow_mul-first
-overflow_mul-first c = let l : c.args.col ≤ c.args.width = omega (arith, c.requires.0) in omega (arith, small c, mul-le-mul_right c.args.height l)
+overflow_mul-first c =
+    let small : c.args.width * c.args.height ≤ 262144 = mul-le-mul c.requires.2 c.requires.1 in
+    let l : c.args.col ≤ c.args.width = omega (arith, c.requires.0) in omega (arith, small, mul-le-mul_right c.args.height l)
 
 pub loop-row-init : goal.loop-row-init
 loop-row-init c = (omega arith, c.requires.4, λ old n e. e ∙ ap (half (gradient_of c.args.height c.args.width c.args.values.now) old) (sym (add-zero (c.args.col * c.args.height))))
@@ -45,13 +35,24 @@ pub slope-requires : goal.slope-requires
 slope-requires c = (omega arith, c.requires.0, c.requires.1, c.requires.2, c.requires.3)
 
 pub overflow_add-first : goal.overflow_add-first
-overflow_add-first c = omega (arith, cell c.before, small c.before.before.before)
+overflow_add-first c =
+    let inside : (row : ℕ) → row < c.args.height → c.args.col * c.args.height + row < c.args.width * c.args.height = λ row l. index_bound c.args.col row c.args.width c.args.height c.requires.0 l in
+    let small : c.args.width * c.args.height ≤ 262144 = mul-le-mul c.requires.2 c.requires.1 in
+    let cell : c.args.col * c.args.height + c.loop-row.row < c.args.width * c.args.height = inside c.loop-row.row (omega arith) in
+    omega (arith, cell, small)
 
 pub offset_bounds-out-first : goal.offset_bounds-out-first
-offset_bounds-out-first c = omega (arith, cell c.before, small c.before.before.before)
+offset_bounds-out-first c =
+    let inside : (row : ℕ) → row < c.args.height → c.args.col * c.args.height + row < c.args.width * c.args.height = λ row l. index_bound c.args.col row c.args.width c.args.height c.requires.0 l in
+    let small : c.args.width * c.args.height ≤ 262144 = mul-le-mul c.requires.2 c.requires.1 in
+    let cell : c.args.col * c.args.height + c.loop-row.row < c.args.width * c.args.height = inside c.loop-row.row (omega arith) in
+    omega (arith, cell, small)
 
 pub bounds-out-first : goal.bounds-out-first
-bounds-out-first c = omega (arith, cell c.before, c.loop-row.invariant.1)
+bounds-out-first c =
+    let inside : (row : ℕ) → row < c.args.height → c.args.col * c.args.height + row < c.args.width * c.args.height = λ row l. index_bound c.args.col row c.args.width c.args.height c.requires.0 l in
+    let cell : c.args.col * c.args.height + c.loop-row.row < c.args.width * c.args.height = inside c.loop-row.row (omega arith) in
+    omega (arith, cell, c.loop-row.invariant.1)
 
 pub overflow_add-row : goal.overflow_add-row
 overflow_add-row c = omega (arith, c.requires.1)

@@ -5,10 +5,6 @@ use Rattle.coder.proofs.Gates.{mergeable}
 use Rattle.smoothing.proofs.Gates.{Found, smooth_past, refuses}
 use Rattle.smoothing.proofs.smooth.Goals as goal
 
--- the plane with its coverings
-abbrev strip : goal.Start → Strip
-strip s = strip_of s.args.height s.args.width s.args.levels s.args.plane.now s.args.coverings.now
-
 pub smooth_checks-found-requires : goal.smooth_checks-found-requires
 smooth_checks-found-requires c = tt
 
@@ -17,8 +13,7 @@ returns-in-Refused c = refuses _ _ _ _ c.in-Refused.r (refused_by c.in-Refused.r
 
 pub smooth_all-requires : goal.smooth_all-requires
 smooth_all-requires c =
-    let good : (let s = c.before.before.before.before.before.before in Found (strip s) c.args.step c.args.res.now c.args.scratch.now) = let s = c.before.before.before.before.before.before in
-    smooth_past (strip s) c.args.step c.args.res.now c.args.scratch.now (passed_by c.in_default.is c.smooth_checks-found.ensures) in
+    let good : (Found (strip_of c.args.height c.args.width c.args.levels c.args.plane.now c.args.coverings.now) c.args.step c.args.res.now c.args.scratch.now) = smooth_past (strip_of c.args.height c.args.width c.args.levels c.args.plane.now c.args.coverings.now) c.args.step c.args.res.now c.args.scratch.now (passed_by c.in_default.is c.smooth_checks-found.ensures) in
     let f = good in record { restorable = (mergeable _ f.passes, f.some, f.small); res_len = (f.result-long, f.scratch_long) }
 
 pub returns : goal.returns

@@ -8,13 +8,6 @@ use Rattle.viewer.proofs.Gates.{Found, window_past, refuses}
 use Rattle.viewer.proofs.Windows.{window_is}
 use Rattle.viewer.proofs.window.Goals as goal
 
--- the plane with its coverings, and the window
-abbrev strip : goal.Start → Strip
-strip s = strip_of s.args.height s.args.width s.args.levels s.args.plane.now s.args.coverings.now
-
-abbrev view : goal.Start → View
-view s = view_of s.args.top s.args.left s.args.tall s.args.wide
-
 pub window_checks-found-requires : goal.window_checks-found-requires
 window_checks-found-requires c = tt
 
@@ -23,15 +16,11 @@ returns-in-Refused c = refuses _ _ _ c.in-Refused.r (refused_by c.in-Refused.r c
 
 pub fill_window-requires : goal.fill_window-requires
 fill_window-requires c =
-    let good : (let s = c.before.before.before.before.before.before in Found (strip s) (view s) c.args.samples.now) = let s = c.before.before.before.before.before.before in
-    window_past (strip s) (view s) c.args.samples.now (passed_by c.in_default.is c.window_checks-found.ensures) in
+    let good : (Found (strip_of c.args.height c.args.width c.args.levels c.args.plane.now c.args.coverings.now) (view_of c.args.top c.args.left c.args.tall c.args.wide) c.args.samples.now) = window_past (strip_of c.args.height c.args.width c.args.levels c.args.plane.now c.args.coverings.now) (view_of c.args.top c.args.left c.args.tall c.args.wide) c.args.samples.now (passed_by c.in_default.is c.window_checks-found.ensures) in
     let f = good in record { restorable = mergeable _ f.passes; inside = (f.inside, f.exact) }
 
 pub returns : goal.returns
 returns c =
-    let good : (let s = c.before.before.before.before.before.before in Found (strip s) (view s) c.args.samples.now) = let s = c.before.before.before.before.before.before in
-    window_past (strip s) (view s) c.args.samples.now (passed_by c.in_default.is c.window_checks-found.ensures) in
-    let e = c.before.before.before.before in
-    let s = e.before.before.before.before.before.before in
+    let good : (Found (strip_of c.args.height c.args.width c.args.levels c.args.plane.now c.args.coverings.now) (view_of c.args.top c.args.left c.args.tall c.args.wide) c.args.samples.now) = window_past (strip_of c.args.height c.args.width c.args.levels c.args.plane.now c.args.coverings.now) (view_of c.args.top c.args.left c.args.tall c.args.wide) c.args.samples.now (passed_by c.in_default.is c.window_checks-found.ensures) in
     let w = c.fill_window.ensures in
-    record { number = passed_by c.in_default.is c.window_checks-found.ensures; image = window_is (view s) c.args.levels c.args.height c.args.width c.args.coverings.now c.args.plane.now _ good.inside w.0 w.1 }
+    record { number = passed_by c.in_default.is c.window_checks-found.ensures; image = window_is (view_of c.args.top c.args.left c.args.tall c.args.wide) c.args.levels c.args.height c.args.width c.args.coverings.now c.args.plane.now _ good.inside w.0 w.1 }

@@ -19,28 +19,6 @@ use Rattle.windows.specs.Shown.{Inside}
 use Rattle.viewer.proofs.Gates.{inside}
 use Rattle.viewer.proofs.window_checks.Goals as goal
 
--- the plane with its coverings
-abbrev strip : goal.Start → Strip
-strip s = strip_of s.args.height s.args.width s.args.levels s.args.plane.now s.args.coverings.now
-
-good : (c : goal.In_default) → let a = c.args in Passed a.height a.width a.levels
-good c = size_passed _ _ _ c.in_default.is c.size_checks-sized.ensures
-
--- the other four
-behind : (c : goal.In_default) → let s = c.before.before.before.before.before in let a = c.args in
-    refuse_if (not (fits_window a.height a.width a.v)) 17
-    (refuse_if (not (is_framed (strip s) && is_plane a.v.tall a.v.wide a.samples.now)) 3
-    (refuse_if (not (is_numbered (strip s))) 5
-    (refuse_if (not (is_ranged (strip s))) 6 0)))
-    ≡ window_refusal (strip s) a.v a.samples.now
-behind c = front_passed _ c.in_default.is (c.size_checks-sized.ensures _)
-
--- the window is inside the picture
-fits : (c : goal.Else-not-fits) → let a = c.args in Inside a.v a.height a.width
-fits c =
-    let a = c.args in
-    inside a.height a.width a.v (truth {b = fits_window a.height a.width a.v} (rw (← c.is_within.ensures, ← c.is_within-2.ensures) c.if-not-fits.false))
-
 -- its sides are small
 wide_most : {h w R : ℕ} {v : View} → Inside v h w → Passed h w R → v.wide ≤ 512
 wide_most i z = omega (arith, i.across, z.wide)
@@ -48,15 +26,17 @@ wide_most i z = omega (arith, i.across, z.wide)
 tall_most : {h w R : ℕ} {v : View} → Inside v h w → Passed h w R → v.tall ≤ 512
 tall_most i z = omega (arith, i.down, z.tall)
 
--- what check 3 finds of the plane and its coverings
-framed : (c : goal.Else-not-framed) → Framed (strip c.before.before.before.before.before.before.before.before.before.before.before)
-framed c =
-    let s = c.before.before.before.before.before.before.before.before.before.before.before in
-    of_framed (strip s) (both_true (is_framed (strip s)) (is_plane c.args.v.tall c.args.v.wide c.args.samples.now) (rw (← c.is_framed.ensures) c.if-not-framed.false)).0
-
--- the numbers, behind c.before.before.before.before.before.before.before.before 5
+-- the numbers, behind check 5
 sizes : (c : goal.Else-not-all_numbers) → let a = c.args in Passed a.height a.width a.levels
-sizes c = good c.before.before.before.before.before.before.before.before
+sizes c =
+    let good : let a = c.args in Passed a.height a.width a.levels = size_passed _ _ _ c.in_default.is c.size_checks-sized.ensures in
+    let behind : let a = c.args in
+    refuse_if (not (fits_window a.height a.width a.v)) 17
+    (refuse_if (not (is_framed (strip_of c.args.height c.args.width c.args.levels c.args.plane.now c.args.coverings.now) && is_plane a.v.tall a.v.wide a.samples.now)) 3
+    (refuse_if (not (is_numbered (strip_of c.args.height c.args.width c.args.levels c.args.plane.now c.args.coverings.now))) 5
+    (refuse_if (not (is_ranged (strip_of c.args.height c.args.width c.args.levels c.args.plane.now c.args.coverings.now))) 6 0)))
+    ≡ window_refusal (strip_of c.args.height c.args.width c.args.levels c.args.plane.now c.args.coverings.now) a.v a.samples.now = front_passed _ c.in_default.is (c.size_checks-sized.ensures _) in
+    good
 
 pub size_checks-sized-requires : goal.size_checks-sized-requires
 size_checks-sized-requires c = tt
@@ -71,25 +51,50 @@ pub is_within-requires-2 : goal.is_within-requires-2
 is_within-requires-2 c = tt
 
 pub returns-then-not-fits : goal.returns-then-not-fits
-returns-then-not-fits c = rw (← behind c.before.before.before, ← c.is_within.ensures, ← c.is_within-2.ensures, c.if-not-fits.true)
+returns-then-not-fits c =
+    let behind : let a = c.args in
+    refuse_if (not (fits_window a.height a.width a.v)) 17
+    (refuse_if (not (is_framed (strip_of c.args.height c.args.width c.args.levels c.args.plane.now c.args.coverings.now) && is_plane a.v.tall a.v.wide a.samples.now)) 3
+    (refuse_if (not (is_numbered (strip_of c.args.height c.args.width c.args.levels c.args.plane.now c.args.coverings.now))) 5
+    (refuse_if (not (is_ranged (strip_of c.args.height c.args.width c.args.levels c.args.plane.now c.args.coverings.now))) 6 0)))
+    ≡ window_refusal (strip_of c.args.height c.args.width c.args.levels c.args.plane.now c.args.coverings.now) a.v a.samples.now = front_passed _ c.in_default.is (c.size_checks-sized.ensures _) in
+    rw (← behind, ← c.is_within.ensures, ← c.is_within-2.ensures, c.if-not-fits.true)
 
 pub is_framed-requires : goal.is_framed-requires
-is_framed-requires c = let z = good c.before.before.before in (z.tall, z.wide, z.few)
+is_framed-requires c =
+    let good : let a = c.args in Passed a.height a.width a.levels = size_passed _ _ _ c.in_default.is c.size_checks-sized.ensures in
+    let z = good in (z.tall, z.wide, z.few)
 
 pub overflow_mul-framed : goal.overflow_mul-framed
-overflow_mul-framed c = let i = fits c.before.before in let z = good c.before.before.before.before.before in omega (arith, mul-le-mul (wide_most i z) (tall_most i z))
+overflow_mul-framed c =
+    let good : let a = c.args in Passed a.height a.width a.levels = size_passed _ _ _ c.in_default.is c.size_checks-sized.ensures in
+    let fits : let a = c.args in Inside a.v a.height a.width = let a = c.args in
+    inside a.height a.width a.v (truth {b = fits_window a.height a.width a.v} (rw (← c.is_within.ensures, ← c.is_within-2.ensures) c.if-not-fits.false)) in
+    let i = fits in let z = good in omega (arith, mul-le-mul (wide_most i z) (tall_most i z))
 
 pub returns-then-not-framed : goal.returns-then-not-framed
 returns-then-not-framed c =
-    rw (← behind c.before.before.before.before.before.before, ← c.is_within.ensures, ← c.is_within-2.ensures, c.if-not-fits.false, ← c.is_framed.ensures, c.if-not-framed.true)
+    let behind : let a = c.args in
+    refuse_if (not (fits_window a.height a.width a.v)) 17
+    (refuse_if (not (is_framed (strip_of c.args.height c.args.width c.args.levels c.args.plane.now c.args.coverings.now) && is_plane a.v.tall a.v.wide a.samples.now)) 3
+    (refuse_if (not (is_numbered (strip_of c.args.height c.args.width c.args.levels c.args.plane.now c.args.coverings.now))) 5
+    (refuse_if (not (is_ranged (strip_of c.args.height c.args.width c.args.levels c.args.plane.now c.args.coverings.now))) 6 0)))
+    ≡ window_refusal (strip_of c.args.height c.args.width c.args.levels c.args.plane.now c.args.coverings.now) a.v a.samples.now = front_passed _ c.in_default.is (c.size_checks-sized.ensures _) in
+    rw (← behind, ← c.is_within.ensures, ← c.is_within-2.ensures, c.if-not-fits.false, ← c.is_framed.ensures, c.if-not-framed.true)
 
 pub all_numbers-requires : goal.all_numbers-requires
 all_numbers-requires c = tt
 
 pub returns-then-not-all_numbers : goal.returns-then-not-all_numbers
 returns-then-not-all_numbers c =
+    let behind : let a = c.args in
+    refuse_if (not (fits_window a.height a.width a.v)) 17
+    (refuse_if (not (is_framed (strip_of c.args.height c.args.width c.args.levels c.args.plane.now c.args.coverings.now) && is_plane a.v.tall a.v.wide a.samples.now)) 3
+    (refuse_if (not (is_numbered (strip_of c.args.height c.args.width c.args.levels c.args.plane.now c.args.coverings.now))) 5
+    (refuse_if (not (is_ranged (strip_of c.args.height c.args.width c.args.levels c.args.plane.now c.args.coverings.now))) 6 0)))
+    ≡ window_refusal (strip_of c.args.height c.args.width c.args.levels c.args.plane.now c.args.coverings.now) a.v a.samples.now = front_passed _ c.in_default.is (c.size_checks-sized.ensures _) in
     rw (
-      ← behind c.before.before.before.before.before.before.before.before,
+      ← behind,
       ← c.is_within.ensures,
       ← c.is_within-2.ensures,
       c.if-not-fits.false,
@@ -109,12 +114,20 @@ pub overflow_cast-levels : goal.overflow_cast-levels
 overflow_cast-levels c = omega (arith, (sizes c).few)
 
 pub in_range-requires : goal.in_range-requires
-in_range-requires c = let z = sizes c in record { width_value = (z.sided, z.deep); plane_len = (framed c.before.before).0 }
+in_range-requires c =
+    let framed : Framed (strip_of c.args.height c.args.width c.args.levels c.args.plane.now c.args.coverings.now) = of_framed (strip_of c.args.height c.args.width c.args.levels c.args.plane.now c.args.coverings.now) (both_true (is_framed (strip_of c.args.height c.args.width c.args.levels c.args.plane.now c.args.coverings.now)) (is_plane c.args.v.tall c.args.v.wide c.args.samples.now) (rw (← c.is_framed.ensures) c.if-not-framed.false)).0 in
+    let z = sizes c in record { width_value = (z.sided, z.deep); plane_len = framed.0 }
 
 pub returns-then-not-in_range : goal.returns-then-not-in_range
 returns-then-not-in_range c =
+    let behind : let a = c.args in
+    refuse_if (not (fits_window a.height a.width a.v)) 17
+    (refuse_if (not (is_framed (strip_of c.args.height c.args.width c.args.levels c.args.plane.now c.args.coverings.now) && is_plane a.v.tall a.v.wide a.samples.now)) 3
+    (refuse_if (not (is_numbered (strip_of c.args.height c.args.width c.args.levels c.args.plane.now c.args.coverings.now))) 5
+    (refuse_if (not (is_ranged (strip_of c.args.height c.args.width c.args.levels c.args.plane.now c.args.coverings.now))) 6 0)))
+    ≡ window_refusal (strip_of c.args.height c.args.width c.args.levels c.args.plane.now c.args.coverings.now) a.v a.samples.now = front_passed _ c.in_default.is (c.size_checks-sized.ensures _) in
     rw (
-      ← behind c.before.before.before.before.before.before.before.before.before.before,
+      ← behind,
       ← c.is_within.ensures,
       ← c.is_within-2.ensures,
       c.if-not-fits.false,
@@ -128,8 +141,14 @@ returns-then-not-in_range c =
 
 pub returns : goal.returns
 returns c =
+    let behind : let a = c.args in
+    refuse_if (not (fits_window a.height a.width a.v)) 17
+    (refuse_if (not (is_framed (strip_of c.args.height c.args.width c.args.levels c.args.plane.now c.args.coverings.now) && is_plane a.v.tall a.v.wide a.samples.now)) 3
+    (refuse_if (not (is_numbered (strip_of c.args.height c.args.width c.args.levels c.args.plane.now c.args.coverings.now))) 5
+    (refuse_if (not (is_ranged (strip_of c.args.height c.args.width c.args.levels c.args.plane.now c.args.coverings.now))) 6 0)))
+    ≡ window_refusal (strip_of c.args.height c.args.width c.args.levels c.args.plane.now c.args.coverings.now) a.v a.samples.now = front_passed _ c.in_default.is (c.size_checks-sized.ensures _) in
     rw (
-      ← behind c.before.before.before.before.before.before.before.before.before.before,
+      ← behind,
       ← c.is_within.ensures,
       ← c.is_within-2.ensures,
       c.if-not-fits.false,

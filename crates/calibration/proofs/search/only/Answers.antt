@@ -25,7 +25,6 @@ pub loop-m-init : goal.loop-m-init
 loop-m-init c =
     let low : Low c.placement_costs-costs.result = λ k l. rw c.placement_costs-costs.ensures (spreads_low c.args.v.now c.requires.3 k l) in
     let own_is : (let x = c.args in c.covering_cost-own.result ≡ cost_at (at x.v.now) x.covering) = c.covering_cost-own.ensures.1 c.args.v.now c.placement_costs-costs.ensures in
-    let a = c.before.before.before in
     (c.requires.1, c.requires.2, low, c.placement_costs-costs.ensures, sym own_is ∙ c.if-own-ne0.false, omega arith, omega arith, refl)
 
 pub no_tie-requires : goal.no_tie-requires
@@ -33,14 +32,14 @@ no_tie-requires c = let inv = c.loop-m.invariant in (inv.0, (inv.5, omega arith)
 
 pub returns-then-not-no_tie : goal.returns-then-not-no_tie
 returns-then-not-no_tie c =
-    let told : (let l = c.before.before.before in let x) = c.args in c.no_tie.result ≡ apart x.covering (at x.v.now) c.loop-m.m = c.no_tie.ensures c.args.v.now c.loop-m.invariant.3 in
+    let told : (let x = c.args in c.no_tie.result ≡ apart x.covering (at x.v.now) c.loop-m.m) = c.no_tie.ensures c.args.v.now c.loop-m.invariant.3 in
     let x = c.args in
     let inv = c.loop-m.invariant in
     whole x.covering (at x.v.now) inv.4 (sym inv.7 ∙ rest_stop x.covering (at x.v.now) c.loop-m.m (inv.5, omega arith) (sym told ∙ c.if-not-no_tie.true))
 
 pub loop-m-preserved : goal.loop-m-preserved
 loop-m-preserved c =
-    let told : (let l = c.before.before.before in let x) = c.args in c.no_tie.result ≡ apart x.covering (at x.v.now) c.loop-m.m = c.no_tie.ensures c.args.v.now c.loop-m.invariant.3 in
+    let told : (let x = c.args in c.no_tie.result ≡ apart x.covering (at x.v.now) c.loop-m.m) = c.no_tie.ensures c.args.v.now c.loop-m.invariant.3 in
     let x = c.args in
     let inv = c.loop-m.invariant in (
       inv.0,

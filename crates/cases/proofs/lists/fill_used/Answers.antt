@@ -1,6 +1,4 @@
 -- `cases::lists::fill_used` is safe and ends. Assumes nothing.
-use Prim.Native.Nat.{◌-◌}
-use lib.ListN.{length}
 use Rattle.cases.proofs.lists.fill_used.Goals as goal
 
 pub put_byte-requires : goal.put_byte-requires

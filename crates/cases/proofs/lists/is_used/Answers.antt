@@ -1,5 +1,4 @@
 -- `cases::lists::is_used` is safe and ends. Assumes nothing.
-use Prim.Native.Nat.{◌-◌}
 use Rattle.cases.proofs.lists.is_used.Goals as goal
 
 pub byte_at-requires : goal.byte_at-requires

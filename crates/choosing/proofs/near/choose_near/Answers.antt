@@ -9,12 +9,11 @@ use Rattle.choosing.proofs.near.choose_near.Goals as goal
 pub put_costs-least-requires : goal.put_costs-least-requires
 put_costs-least-requires c =
     let low : Low c.placement_costs-costs.result = λ k l. rw c.placement_costs-costs.ensures (spreads_low c.args.v c.requires.2 k l) in
-    let p = c.before.before.before in (c.requires.1, low, refl)
+    (c.requires.1, low, refl)
 
 pub overflow_add-least : goal.overflow_add-least
 overflow_add-least c =
     let low : Low c.placement_costs-costs.result = λ k l. rw c.placement_costs-costs.ensures (spreads_low c.args.v c.requires.2 k l) in
-    let p = u.before.before.before.before in
     omega (arith, c.requires.3, (c.put_costs-least.ensures.1 (cost_from c.placement_costs-costs.result) c.put_costs-least.ensures.0).below 1 (omega arith, omega arith), cost_low c.placement_costs-costs.result low 1 (omega arith, omega arith))
 
 pub returns : goal.returns

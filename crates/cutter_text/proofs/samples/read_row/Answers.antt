@@ -3,7 +3,7 @@ use mathlib.Core.Path.{◌≡◌, sym, ap, ◌∙◌}
 use Prim.Native.Nat.{ℕ, ◌+◌, ◌*◌, ◌-◌, ◌<◌, ◌≤◌}
 use native.Mathlib.Omega.{arith}
 use native.Mathlib.Nat.{mul-le-mul}
-use lib.ListN.{length, drop, length-set}
+use lib.ListN.{drop, length-set}
 use Rattle.integers.proofs.Index.{index_bound}
 use Rattle.text.specs.Text.{row}
 use Rattle.cutter_text.specs.Forms.{plains}
@@ -11,20 +11,14 @@ use Rattle.cutter_text.specs.Rows.{row_of}
 use Rattle.cutter_text.proofs.Stores.{row_again, row_stop, row_done}
 use Rattle.cutter_text.proofs.samples.read_row.Goals as goal
 
-room : (k : goal.In-Of) → let a = k.args in let x = k.loop-x.x in
-    (x * a.height + a.y < a.width * a.height) × (a.width * a.height ≤ 1024)
-room k =
-    let a = k.args in
-    (index_bound k.loop-x.x a.y a.width a.height k.loop-x-test.true k.requires.0, mul-le-mul k.requires.2 k.requires.1)
+room : (height width y x : ℕ) → x < width → y < height → height ≤ 32 → width ≤ 32 → (x * height + y < width * height) × (width * height ≤ 1024)
+room height width y x a b h w = (index_bound x y width height a b, mul-le-mul w h)
 
 pub loop-x-init : goal.loop-x-init
 loop-x-init c =
     let a = c.args in
     let z : a.width - 0 ≡ a.width = omega arith in
     (omega arith, c.requires.3, ap (λ (j : ℕ). row_of a.height a.y 0 a.samples.now (row (plains j) (drop a.at a.s.now))) z)
-
-pub shape_of-samples-in_default : goal.shape_of-samples-in_default
-shape_of-samples-in_default c = c.loop-x.invariant.1 ∙ sym c.requires.3
 
 pub returns-in_default : goal.returns-in_default
 returns-in_default c =
@@ -34,16 +28,28 @@ returns-in_default c =
     ∙ l.invariant.2
 
 pub overflow_mul-k : goal.overflow_mul-k
-overflow_mul-k c = omega (arith, (room c).0, (room c).1)
+overflow_mul-k c =
+    let a = c.args in
+    let r = room a.height a.width a.y c.loop-x.x c.loop-x-test.true c.requires.0 c.requires.1 c.requires.2 in
+    omega (arith, r.0, r.1)
 
 pub overflow_add-k : goal.overflow_add-k
-overflow_add-k c = omega (arith, (room c).0, (room c).1)
+overflow_add-k c =
+    let a = c.args in
+    let r = room a.height a.width a.y c.loop-x.x c.loop-x-test.true c.requires.0 c.requires.1 c.requires.2 in
+    omega (arith, r.0, r.1)
 
 pub offset_bounds-samples-k : goal.offset_bounds-samples-k
-offset_bounds-samples-k c = omega (arith, (room c.before).0, (room c.before).1)
+offset_bounds-samples-k c =
+    let a = c.args in
+    let r = room a.height a.width a.y c.loop-x.x c.loop-x-test.true c.requires.0 c.requires.1 c.requires.2 in
+    omega (arith, r.0, r.1)
 
 pub bounds-samples-k : goal.bounds-samples-k
-bounds-samples-k c = omega (arith, (room c.before).0, c.loop-x.invariant.1)
+bounds-samples-k c =
+    let a = c.args in
+    let r = room a.height a.width a.y c.loop-x.x c.loop-x-test.true c.requires.0 c.requires.1 c.requires.2 in
+    omega (arith, r.0, c.loop-x.invariant.1)
 
 pub loop-x-preserved : goal.loop-x-preserved
 loop-x-preserved c =
@@ -55,9 +61,6 @@ loop-x-preserved c =
       row_again a.height a.width a.y l.x l.samples a.s.now l.p t c.end_of-end.result c.in-Of.v c.in-Of.next c.hold.result c.end_of-end.ensures (sym c.read_size.ensures ∙ c.in-Of.is) c.hold.ensures
           ∙ l.invariant.2,
     )
-
-pub shape_of-samples : goal.shape_of-samples
-shape_of-samples c = c.loop-x.invariant.1 ∙ sym c.requires.3
 
 pub returns : goal.returns
 returns c =

@@ -18,9 +18,6 @@ loop-y-init c =
 pub read_row-requires : goal.read_row-requires
 read_row-requires c = (c.loop-y-test.true, c.requires.0, c.requires.1, c.loop-y.invariant.1)
 
-pub shape_of-samples-in_default : goal.shape_of-samples-in_default
-shape_of-samples-in_default c = c.read_row.auto.1.1.1.1.1.0 ∙ c.loop-y.invariant.1 ∙ sym c.requires.2
-
 pub returns-in_default : goal.returns-in_default
 returns-in_default c =
     let l = c.loop-y in
@@ -34,13 +31,10 @@ loop-y-preserved c =
     let a = c.args in
     let t = c.loop-y-test.true in (
       omega (arith, t),
-      c.read_row.auto.1.1.1.1.1.0 ∙ l.invariant.1,
+      c.read_row.auto.samples ∙ l.invariant.1,
       rows_again a.height a.width l.y l.samples a.s.now l.p t c.read_row.new.samples c.in-To.next (ap (λ o. passed o a.s.now c.read_row.new.samples) (sym c.in-To.is) ∙ c.read_row.ensures)
           ∙ l.invariant.2,
     )
-
-pub shape_of-samples : goal.shape_of-samples
-shape_of-samples c = c.loop-y.invariant.1 ∙ sym c.requires.2
 
 pub returns : goal.returns
 returns c =

@@ -1,16 +1,10 @@
 -- `intake::reading::read_part` meets its contract. Assumes nothing.
+use mathlib.Core.Path.{subst⁻¹}
 use native.Mathlib.Nat.{le_of_lt}
 use native.Mathlib.Omega.{arith}
-use lib.ListN.{length-take, length-drop}
-use borrow.Author.Rules.{rules}
-use Rattle.intake.proofs.Parts.{front_stays}
+use Rattle.std.specs.Io.KnownBytes.{Consumes}
+use Rattle.intake.proofs.Given.{came_in}
 use Rattle.intake.proofs.reading.read_part.Goals as goal
 
-pub returns-then-got-lt0 : goal.returns-then-got-lt0
-returns-then-got-lt0 c = record { size = search rules; stays = front_stays _ _ _ (le_of_lt c.if-text-done.false); place = search rules }
-
-pub returns-then-more-eq0 : goal.returns-then-more-eq0
-returns-then-more-eq0 c = record { size = search rules; stays = front_stays _ _ _ (le_of_lt c.if-text-done.false); place = search rules }
-
-pub returns : goal.returns
-returns c = record { size = search rules; stays = front_stays _ _ _ (le_of_lt c.if-text-done.false); place = (omega (arith, c.if-more-eq0.false), omega (arith, simp (length-take, length-drop) at c.count-more.ensures.in_bounds.0)) }
+pub returns-clause-given : goal.returns-clause-given
+returns-clause-given g c = subst⁻¹ (Consumes _ _) (came_in _ _ _ _ _ (le_of_lt c.if-text-done.false) c.in-Ok.ensures.bound.0) c.in-Ok.ensures.bytes.0

@@ -8,13 +8,12 @@ use Rattle.kernel.proofs.Kernel.{small_within, summed, piece_value}
 use Rattle.kernel.proofs.transform.piece.Goals as goal
 
 pub signed_sums-requires : goal.signed_sums-requires
-signed_sums-requires c =
-    (
-      small_within c.args.v.now c.requires.3 _ c.cell_at-a.ensures.1,
-      small_within c.args.v.now c.requires.3 _ c.cell_at-b.ensures.1,
-      small_within c.args.v.now c.requires.3 _ c.cell_at-c.ensures.1,
-      small_within c.args.v.now c.requires.3 _ c.cell_at-d.ensures.1,
-    )
+signed_sums-requires c = (
+  small_within c.args.v.now c.requires.3 _ c.cell_at-a.ensures.1,
+  small_within c.args.v.now c.requires.3 _ c.cell_at-b.ensures.1,
+  small_within c.args.v.now c.requires.3 _ c.cell_at-c.ensures.1,
+  small_within c.args.v.now c.requires.3 _ c.cell_at-d.ensures.1,
+)
 
 pub returns : goal.returns
 unfolding forward

@@ -6,7 +6,7 @@ use lib.IntN.{ℤ}
 use mir.Syntax.{w64}
 use mir.Val.{to_z, of_z}
 use Rattle.integers.proofs.Ring.{v, ◌⊕◌, ◌⊖◌}
-use Rattle.integers.proofs.Machine.{Vars, none, arg, fits!, reads!}
+use Rattle.integers.proofs.Machine.{Vars, none, arg, fits!, reads! }
 use Rattle.kernel.proofs.transform.signed_sums.Goals as goal
 
 abbrev Four : ℤ → ℤ → ℤ → ℤ → Type 0

@@ -7,13 +7,12 @@ use Rattle.kernel.proofs.Kernel.{kept_within, small_within, summed}
 use Rattle.kernel.proofs.transform.unsum.Goals as goal
 
 pub signed_sums-requires : goal.signed_sums-requires
-signed_sums-requires c =
-    (
-      small_within c.args.t c.requires.1 _ (omega arith),
-      small_within c.args.t c.requires.1 _ (omega arith),
-      small_within c.args.t c.requires.1 _ (omega arith),
-      small_within c.args.t c.requires.1 _ (omega arith),
-    )
+signed_sums-requires c = (
+  small_within c.args.t c.requires.1 _ (omega arith),
+  small_within c.args.t c.requires.1 _ (omega arith),
+  small_within c.args.t c.requires.1 _ (omega arith),
+  small_within c.args.t c.requires.1 _ (omega arith),
+)
 
 pub returns : goal.returns
 returns c =

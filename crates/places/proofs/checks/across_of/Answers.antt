@@ -1,7 +1,5 @@
 -- `places::checks::across_of` meets its contract. Assumes nothing.
-use mathlib.Core.Bool.{false}
 use mathlib.Core.Logic.{inl, inr}
-use Prim.Native.Nat.{◌-◌}
 use native.Mathlib.Omega.{arith}
 use Rattle.places.proofs.Tests.{left_right, left_left}
 use Rattle.places.proofs.checks.across_of.Goals as goal

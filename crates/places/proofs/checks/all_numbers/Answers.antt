@@ -1,8 +1,8 @@
 -- `places::checks::all_numbers` meets its contract. Assumes nothing.
 use mathlib.Core.Path.{sym, ap, ◌∙◌}
-use Prim.Native.Nat.{◌-◌, ◌≤◌}
+use Prim.Native.Nat.{◌≤◌}
 use native.Mathlib.Omega.{arith}
-use lib.ListN.{length, drop, drop_of_length-le}
+use lib.ListN.{length, drop_of_length-le}
 use Rattle.integers.specs.Lists.{every}
 use Rattle.coverings.specs.Entry.{is_number}
 use Rattle.places.proofs.Tests.{number_next, number_low, number_high}

@@ -1,6 +1,6 @@
 -- `places::checks::count_blocks` meets its contract. Assumes nothing.
 use mathlib.Core.Path.{◌≡◌, ap}
-use Prim.Native.Nat.{ℕ, ◌-◌}
+use Prim.Native.Nat.{ℕ}
 use native.Mathlib.Omega.{arith}
 use Rattle.places.proofs.Tests.{blocks_next, blocks_bound}
 use Rattle.pyramid.specs.Plane.{all_blocks}

@@ -1,6 +1,6 @@
 -- `places::checks::count_blocks` meets its contract. Assumes nothing.
 use mathlib.Core.Path.{◌≡◌}
-use Prim.Native.Nat.{◌+◌, ◌*◌, ◌-◌, ◌≤◌}
+use Prim.Native.Nat.{◌+◌, ◌*◌, ◌≤◌}
 use Rattle.pyramid.specs.Plane.{all_blocks}
 use Rattle.places.proofs.checks.count_blocks.Given as goal
 

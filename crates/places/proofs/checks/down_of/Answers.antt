@@ -1,5 +1,4 @@
 -- `places::checks::down_of` meets its contract. Assumes nothing.
-use Prim.Native.Nat.{◌-◌}
 use native.Mathlib.Omega.{arith}
 use Rattle.places.proofs.Tests.{top_low, top_high}
 use Rattle.places.proofs.checks.down_of.Goals as goal

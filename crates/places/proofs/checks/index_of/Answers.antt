@@ -1,5 +1,5 @@
 -- `places::checks::index_of` meets its contract. Assumes nothing.
-use Prim.Native.Nat.{◌+◌, ◌*◌, ◌-◌, ◌<◌, ◌≤◌}
+use Prim.Native.Nat.{◌+◌, ◌*◌, ◌<◌, ◌≤◌}
 use native.Mathlib.Omega.{arith}
 use Rattle.integers.proofs.Index.{index_bound}
 use native.Mathlib.Nat.{mul-le-mul}

@@ -1,6 +1,6 @@
 -- `places::checks::power` meets its contract. Assumes nothing.
 use mathlib.Core.Path.{◌≡◌, sym, ap}
-use Prim.Native.Nat.{ℕ, ◌-◌, ◌^◌, ◌≤◌}
+use Prim.Native.Nat.{ℕ, ◌^◌, ◌≤◌}
 use native.Mathlib.Omega.{arith}
 use Rattle.places.proofs.checks.power.Goals as goal
 
@@ -38,4 +38,4 @@ pub returns-in-8 : goal.returns-in-8
 returns-in-8 c = let e : c.args.r ≡ 8 = omega arith in sym (ap (λ (r : ℕ). 4 ^ r) e)
 
 pub returns-in_default : goal.returns-in_default
-returns-in_default c = let r = c.in_default.rest in sym (ap (λ (r : ℕ). 4 ^ r) (nine c.args.r c.requires r.0.0.0.1 r.0.0.1 r.0.1 r.1 (five c.args.r r.0.0.0.0.0.0.0.0.1 r.0.0.0.0.0.0.0.1 r.0.0.0.0.0.0.1 r.0.0.0.0.0.1 r.0.0.0.0.1)))
+returns-in_default c = let e : c.args.r ≡ 9 = omega arith in sym (ap (λ (r : ℕ). 4 ^ r) e)

@@ -1,5 +1,4 @@
 -- `places::checks::reaches` meets its contract. Assumes nothing.
-use Prim.Native.Nat.{◌-◌, ◌≤◌}
 use native.Mathlib.Omega.{arith}
 use Rattle.places.proofs.Tests.{depth_at, depth_other}
 use Rattle.places.proofs.checks.reaches.Goals as goal
@@ -29,8 +28,4 @@ pub returns-in-8 : goal.returns-in-8
 returns-in-8 c = let a = c.args in depth_at 7 a.levels a.side (omega arith)
 
 pub returns-in_default : goal.returns-in_default
-returns-in_default c =
-    let a = c.args in
-    let r = c.in_default.rest in
-    depth_other a.levels a.side
-    (λ p l. let m : 5 ≤ a.levels = omega (arith, r.0.0.0.0.0.0.0.1, r.0.0.0.0.0.0.1, r.0.0.0.0.0.1, r.0.0.0.0.1) in omega (arith, r.0.0.0.1, r.0.0.1, r.0.1, r.1)) (omega arith)
+returns-in_default c = let a = c.args in depth_other a.levels a.side (λ p l. omega arith) (omega arith)

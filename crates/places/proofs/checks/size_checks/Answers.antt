@@ -1,7 +1,6 @@
 -- `places::checks::size_checks` meets its contract: each return by what the tests before it found. Assumes nothing.
 use mathlib.Core.Path.{◌≡◌, sym, ◌∙◌}
 use mathlib.Core.Bool.{true}
-use borrow.Author.Tests.{not-false}
 use Rattle.pyramid.specs.Sides.{is_sides}
 use Rattle.places.proofs.Sides.{sides_small}
 use Rattle.places.proofs.checks.size_checks.Goals as goal

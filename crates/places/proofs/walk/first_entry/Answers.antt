@@ -13,7 +13,7 @@ returns-then-levels-eq1 c =
     let p = c.requires in
     let q = passed a.height a.width a.levels p.0 p.1 in
     let o : a.levels ≡ 1 = c.if-levels-eq1.true in
-    (entry_start a.height a.width a.levels q 0 (omega arith), entries_all a.height a.width a.levels 0 (omega arith) (ap (λ (R : ℕ). first_band entry_at 0 1 (R - 1)) (sym o)) (omega arith))
+    record { inside = entry_start a.height a.width a.levels q 0 (omega arith); result_value = entries_all a.height a.width a.levels 0 (omega arith) (ap (λ (R : ℕ). first_band entry_at 0 1 (R - 1)) (sym o)) (omega arith) }
 
 pub returns : goal.returns
 returns c =
@@ -21,4 +21,4 @@ returns c =
     let p = c.requires in
     let q = passed a.height a.width a.levels p.0 p.1 in
     let o : a.levels - 1 ≡ suc (a.levels - 2) = omega (arith, q.some_level, c.if-levels-eq1.false) in
-record { inside = entry_start a.height a.width a.levels q 1 (omega arith); result_value = entries_all a.height a.width a.levels 1 q.some_level (ap (λ (R : ℕ). first_band entry_at 0 1 R) (sym o)) (omega arith) }
+    record { inside = entry_start a.height a.width a.levels q 1 (omega arith); result_value = entries_all a.height a.width a.levels 1 q.some_level (ap (λ (R : ℕ). first_band entry_at 0 1 R) (sym o)) (omega arith) }

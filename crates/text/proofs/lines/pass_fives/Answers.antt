@@ -1,20 +1,10 @@
 -- `text::lines::pass_fives` meets its contract. Assumes nothing.
 use mathlib.Core.Path.{sym, ◌∙◌}
-use Prim.Native.Nat.{◌-◌}
 use native.Mathlib.Omega.{arith}
-use lib.ListN.{length, drop, length-drop}
+use lib.ListN.{length-drop}
 use Rattle.text.specs.Lines.{five}
-use Rattle.text.proofs.Many.{five_at_law, five_none, past_next, past_stop, past_end, RowRead}
+use Rattle.text.proofs.Many.{five_at_law, five_none, past_next, past_stop, past_end}
 use Rattle.text.proofs.lines.pass_fives.Goals as goal
-
-abbrev Here : Type 0
-Here = goal.In-Of
-
-read : (c : Here) → RowRead five c.before.before.before.before.before.before.before.args.s.now c.before.before.before.before.before.loop.p c.before.line.given.0.0.next
-read c =
-    let k = c.before.before.before.before.before in
-    let g = c.before.line.given in
-    five_at_law k.before.before.args.s.now k.loop.p g.0.0 (sym c.before.before.before.read-five.ensures ∙ g.1)
 
 pub returns-in-Bad : goal.returns-in-Bad
 returns-in-Bad c =
@@ -24,13 +14,13 @@ returns-in-Bad c =
 pub loop-p-smaller : goal.loop-p-smaller
 loop-p-smaller c =
     let s = c.args.s.now in
-    let r = read c in
+    let r = five_at_law s c.loop-p.p c.in-Of.f (sym c.read_five-line.ensures ∙ c.in-Of.is) in
     omega (arith, r.less, r.within, length-drop c.loop-p.p s, length-drop c.in-Of.f.next s)
 
 pub loop-p-preserved : goal.loop-p-preserved
 loop-p-preserved c =
     let s = c.args.s.now in
-    let r = read c in
+    let r = five_at_law s c.loop-p.p c.in-Of.f (sym c.read_five-line.ensures ∙ c.in-Of.is) in
     (r.within, sym (past_next five s c.loop-p.p c.in-Of.f.next r.cells (omega arith) r.read) ∙ c.loop-p.invariant.1)
 
 pub returns : goal.returns

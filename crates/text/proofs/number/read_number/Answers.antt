@@ -1,10 +1,8 @@
 -- `text::number::read_number` meets its contract. Assumes nothing.
 use mathlib.Core.Path.{sym, ap, ◌∙◌}
 use mathlib.Core.Logic.{inl, inr}
-use Prim.Native.Nat.{◌-◌}
 use native.Mathlib.Omega.{arith}
 use lib.ListN.{length}
-use Rattle.text.specs.Text.{more, number}
 use Rattle.text.specs.At.{size_of}
 use Rattle.text.proofs.Cursor.{number_zero, number_more, number_other, number_none}
 use Rattle.text.proofs.number.read_number.Goals as goal

@@ -4,12 +4,6 @@ use native.Mathlib.Omega.{arith}
 use Rattle.text.proofs.Cursor.{size_bad, size_past, size_other, size_here}
 use Rattle.text.proofs.number.read_size.Goals as goal
 
-pub enum_told-1 : goal.enum_told-1
-enum_told-1 c = c.in-Bad.keys1
-
-pub enum_known-got : goal.enum_known-got
-enum_known-got c = c.in-Of.keys2
-
 pub returns-then-s-next : goal.returns-then-s-next
 returns-then-s-next c =
     let a = c.args in

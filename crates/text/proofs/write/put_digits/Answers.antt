@@ -1,4 +1,3 @@
-
 use Rattle.text.specs.Write.{stamped}
 use mathlib.Core.Path.{◌≡◌}
 use Prim.Native.Nat.{suc, ◌-◌}

@@ -1,7 +1,6 @@
-
 use Rattle.text.specs.Write.{stamped}
 use mathlib.Core.Path.{◌≡◌}
-use Prim.Native.Nat.{◌≤◌, ◌-◌}
+use Prim.Native.Nat.{◌≤◌}
 use lib.ListN.{length}
 use Rattle.text.proofs.write.put_digits.Given as goal
 

@@ -11,26 +11,19 @@ use Rattle.text.proofs.Stamp.{width_le, text_negative, text_positive}
 use Rattle.text.proofs.Exact.{laws}
 use Rattle.text.proofs.write.value_width.Goals as goal
 
-m_is : (c : goal.After-magnitude-m) → c.magnitude-m.result ≡ nat_abs c.args.v
-m_is c = c.magnitude-m.ensures ∙ ap nat_abs (to_z-of_z c.ranges.v)
-
-pub overflow_cast-m : goal.overflow_cast-m
-overflow_cast-m c = omega (arith, m_is c)
-
-pub width-w-requires : goal.width-w-requires
-width-w-requires c = omega (arith, m_is c)
-
 pub overflow_add-result : goal.overflow_add-result
 overflow_add-result c = omega (arith, c.width-w.ensures, width_le 10 c.magnitude-m.result)
 
 pub returns-then-v-lt0 : goal.returns-then-v-lt0
 returns-then-v-lt0 c =
     let v = c.args.v in
+    let m : c.magnitude-m.result ≡ nat_abs v = c.magnitude-m.ensures ∙ ap nat_abs (to_z-of_z c.ranges.v) in
     let e : lt_z v (pos 0) ≡ true = rw (to_z-of_z c.ranges.v) at c.if-v-lt0.true in
-    (omega (arith, c.width-w.ensures, ap (λ x. length (digits x)) (m_is c.before.before), ap length (text_negative v e)), laws)
+    (omega (arith, c.width-w.ensures, ap (λ x. length (digits x)) m, ap length (text_negative v e)), laws)
 
 pub returns : goal.returns
 returns c =
     let v = c.args.v in
+    let m : c.magnitude-m.result ≡ nat_abs v = c.magnitude-m.ensures ∙ ap nat_abs (to_z-of_z c.ranges.v) in
     let e : lt_z v (pos 0) ≡ false = rw (to_z-of_z c.ranges.v) at c.if-v-lt0.false in
-    (omega (arith, c.width-w.ensures, ap (λ x. length (digits x)) (m_is c.before.before), ap length (text_positive v e)), laws)
+    (omega (arith, c.width-w.ensures, ap (λ x. length (digits x)) m, ap length (text_positive v e)), laws)
