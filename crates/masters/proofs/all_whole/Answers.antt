@@ -30,9 +30,8 @@ pub column_whole-requires : goal.column_whole-requires
 column_whole-requires c =
     let i = c.before in
 
-record { cells_value =
-    let col : (let a = c.args in c.loop-j.j < halved (a.levels - 1) a.width / 4) = let a = c.args in omega (arith, c.loop-j-test.true, ap (λ (n : ℕ). n / 4) (halved_shift (a.levels - 1) a.width)) in
-    ((c.cells-cells.ensures, (c.requires, (col, c.power-unit.ensures)))).0; restorable = ((c.cells-cells.ensures, (c.requires, (col, c.power-unit.ensures)))).1; j_bound = ((c.cells-cells.ensures, (c.requires, (col, c.power-unit.ensures)))).2 }
+let col : (let a = c.args in c.loop-j.j < halved (a.levels - 1) a.width / 4) = let a = c.args in omega (arith, c.loop-j-test.true, ap (λ (n : ℕ). n / 4) (halved_shift (a.levels - 1) a.width)) in
+    record { cells_value = c.cells-cells.ensures; restorable = c.requires; j_bound = (col, c.power-unit.ensures) }
 
 pub returns-then-not-column_whole : goal.returns-then-not-column_whole
 returns-then-not-column_whole c =

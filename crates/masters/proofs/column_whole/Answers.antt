@@ -25,24 +25,23 @@ loop-i-init c = (omega arith, λ p l. absurd (omega arith))
 
 pub first_node-k-requires : goal.first_node-k-requires
 first_node-k-requires c =
-    let p = c.requires.1.0 in
-    ((p.fits, p.some, p.most, p.height, p.width, p.covered), (row c, c.requires.1.1.0))
+    let p = c.requires.restorable in
+    ((p.fits, p.some, p.most, p.height, p.width, p.covered), (row c, c.requires.j_bound.0))
 
 pub last-low-requires : goal.last-low-requires
 last-low-requires c =
     let i = c.before in
     let a = c.args in
-    let p = c.requires.1.0 in
+    let p = c.requires.restorable in
     let down : c.loop-i.i * 2 + 1 < a.height = omega (arith, row c.before, halved_le (a.levels - 1) a.height) in
-    let across : a.j * 2 + 1 < a.width = omega (arith, c.requires.1.1.0, halved_le (a.levels - 1) a.width) in
+    let across : a.j * 2 + 1 < a.width = omega (arith, c.requires.j_bound.0, halved_le (a.levels - 1) a.width) in
     (p.height, omega (arith, p.height), omega (arith, p.width), omega (arith, index_bound (a.j * 2 + 1) (c.loop-i.i * 2 + 1) a.width a.height across down, p.plane_long))
 
 pub whole_in-requires : goal.whole_in-requires
 whole_in-requires c =
     let a = c.args in
     let k = c.first_node-k.ensures in
-
-record { cells_value = ((c.requires.0, asked (block_at a.levels a.height a.width a.levels c.loop-i.i a.j) a.coverings.now a.plane.now k.0 a.unit c.requires.1.0 k.1 c.requires.1.1.1 (values_last a.levels a.height a.width a.coverings.now a.plane.now c.loop-i.i a.j c.last-low.ensures))).0; restorable = ((c.requires.0, asked (block_at a.levels a.height a.width a.levels c.loop-i.i a.j) a.coverings.now a.plane.now k.0 a.unit c.requires.1.0 k.1 c.requires.1.1.1 (values_last a.levels a.height a.width a.coverings.now a.plane.now c.loop-i.i a.j c.last-low.ensures))).1; low_value = ((c.requires.0, asked (block_at a.levels a.height a.width a.levels c.loop-i.i a.j) a.coverings.now a.plane.now k.0 a.unit c.requires.1.0 k.1 c.requires.1.1.1 (values_last a.levels a.height a.width a.coverings.now a.plane.now c.loop-i.i a.j c.last-low.ensures))).2 }
+    record { cells_value = ((c.requires.cells_value, asked (block_at a.levels a.height a.width a.levels c.loop-i.i a.j) a.coverings.now a.plane.now k.0 a.unit c.requires.restorable k.1 c.requires.j_bound.1 (values_last a.levels a.height a.width a.coverings.now a.plane.now c.loop-i.i a.j c.last-low.ensures))).0; restorable = ((c.requires.cells_value, asked (block_at a.levels a.height a.width a.levels c.loop-i.i a.j) a.coverings.now a.plane.now k.0 a.unit c.requires.restorable k.1 c.requires.j_bound.1 (values_last a.levels a.height a.width a.coverings.now a.plane.now c.loop-i.i a.j c.last-low.ensures))).1; low_value = ((c.requires.cells_value, asked (block_at a.levels a.height a.width a.levels c.loop-i.i a.j) a.coverings.now a.plane.now k.0 a.unit c.requires.restorable k.1 c.requires.j_bound.1 (values_last a.levels a.height a.width a.coverings.now a.plane.now c.loop-i.i a.j c.last-low.ensures))).2 }
 
 pub returns-then-not-whole_in : goal.returns-then-not-whole_in
 returns-then-not-whole_in c =
@@ -52,10 +51,10 @@ returns-then-not-whole_in c =
     let w = c.before in
     let i = w.before.before.before in
     let a = c.args in
-    ((λ f. absurd f), (λ all. absurd (failed c.whole_in.result c.if-not-whole_in.true (said.1 (in_column a.levels a.height a.width c.requires.1.0.some c.requires.1.0.fits (WholeCell a.levels a.height a.width a.coverings.now a.plane.now) a.j all c.loop-i.i (row c.before.before.before.before))))))
+    ((λ f. absurd f), (λ all. absurd (failed c.whole_in.result c.if-not-whole_in.true (said.1 (in_column a.levels a.height a.width c.requires.restorable.some c.requires.restorable.fits (WholeCell a.levels a.height a.width a.coverings.now a.plane.now) a.j all c.loop-i.i (row c.before.before.before.before))))))
 
 pub overflow_add-i : goal.overflow_add-i
-overflow_add-i c = let i = c.before.before.before.before in omega (arith, row c.before.before.before.before, halved_le (c.args.levels - 1) c.args.height, c.requires.1.0.height)
+overflow_add-i c = let i = c.before.before.before.before in omega (arith, row c.before.before.before.before, halved_le (c.args.levels - 1) c.args.height, c.requires.restorable.height)
 
 pub loop-i-smaller : goal.loop-i-smaller
 loop-i-smaller c = omega (arith, c.loop-i-test.true)
@@ -71,7 +70,7 @@ loop-i-preserved c =
 pub returns : goal.returns
 returns c =
     let a = c.args in (
-      (λ f. column_of a.levels a.height a.width c.requires.1.0.some c.requires.1.0.fits (WholeCell a.levels a.height a.width a.coverings.now a.plane.now) a.j
+      (λ f. column_of a.levels a.height a.width c.requires.restorable.some c.requires.restorable.fits (WholeCell a.levels a.height a.width a.coverings.now a.plane.now) a.j
           (λ i m. c.loop-i.invariant.1 i (omega (arith, c.loop-i-test.false, ap (λ (n : ℕ). n / 4) (halved_shift (a.levels - 1) a.height))))),
       (λ all. tt),
     )
