@@ -5,11 +5,11 @@ set -eu
 cd "$(dirname "$0")/.."
 mkdir -p target/examples
 if [ "${1:-}" != --built ]; then
-    rt staticlib c_api >target/examples/staticlib.log 2>&1 || { cat target/examples/staticlib.log; exit 1; }
+    (cd crates/c_api && rt lib) >target/examples/lib.log 2>&1 || { cat target/examples/lib.log; exit 1; }
 fi
-archive=target/staticlib/libc_api.a
+archive=crates/c_api/out/libc_api.a
 cc -O2 -std=c11 -Wall -Wextra -Iinclude examples/caller.c "$archive" -o target/examples/caller_c
-rustc --edition 2021 -O -L native=target/staticlib -l static=c_api examples/caller.rs -o target/examples/caller_rust
+rustc --edition 2021 -O -L native=crates/c_api/out -l static=c_api examples/caller.rs -o target/examples/caller_rust
 echo "C:"
 target/examples/caller_c | tee target/examples/c.txt
 echo "Rust:"

@@ -8,9 +8,9 @@ set -eu
 cd "$(dirname "$0")/.."
 mkdir -p target/pictures
 if [ "${1:-}" != --built ]; then
-    rt staticlib c_api >target/pictures/staticlib.log 2>&1 || { cat target/pictures/staticlib.log; exit 1; }
+    (cd crates/c_api && rt lib) >target/pictures/lib.log 2>&1 || { cat target/pictures/lib.log; exit 1; }
 fi
-archive=target/staticlib/libc_api.a
+archive=crates/c_api/out/libc_api.a
 flags='-O2 -std=c11 -Wall -Wextra -Iinclude -Ibench -Iexamples -Ipictures'
 height=256 width=256 levels=7 quota=1966
 whole=$((height * width - height * width / 4 ** levels))

@@ -1,9 +1,9 @@
 #!/bin/sh
 # cutter.sh FOLDER: runs the cutter on each NAME.in of the folder, compares what it prints with NAME.out, and says how many agree.
-# CUTTER names the program, target/bin/cutter if it is not set; `rt check cutter` builds it.
+# CUTTER names the program, crates/cutter/out/cutter if it is not set; `rt run` in crates/cutter builds it.
 folder=${1:?usage: cutter.sh FOLDER}
 root=$(cd "$(dirname "$0")/.." && pwd)
-program=${CUTTER:-$root/target/bin/cutter}
+program=${CUTTER:-$root/crates/cutter/out/cutter}
 good=0
 all=0
 for input in "$folder"/*.in; do

@@ -6,9 +6,9 @@ cd "$(dirname "$0")/.."
 mkdir -p target/fuzz
 if [ "${BUILT:-0}" != 1 ]; then
     for crate in c_api plain_c; do
-        rt staticlib $crate >target/fuzz/staticlib.log 2>&1 || { cat target/fuzz/staticlib.log; exit 1; }
+        (cd crates/$crate && rt lib) >target/fuzz/lib.log 2>&1 || { cat target/fuzz/lib.log; exit 1; }
     done
 fi
 cc -O1 -g -std=c11 -Wall -Wextra -fsanitize=address,undefined -fno-sanitize-recover=all -Iinclude -Ibench -Itests tests/fuzz.c bench/baseline.c \
-    target/staticlib/libc_api.a target/staticlib/libplain_c.a -o target/fuzz/fuzz
+    crates/c_api/out/libc_api.a crates/plain_c/out/libplain_c.a -o target/fuzz/fuzz
 target/fuzz/fuzz "$@"

@@ -3,5 +3,5 @@
 set -eu
 cd "$(dirname "$0")/.."
 mkdir -p target
-rt staticlib c_api >target/staticlib.log 2>&1 || { cat target/staticlib.log; exit 1; }
-cc -shared -o target/libtetrolet.so -Wl,--whole-archive target/staticlib/libc_api.a -Wl,--no-whole-archive
+(cd crates/c_api && rt lib) >target/lib.log 2>&1 || { cat target/lib.log; exit 1; }
+cc -shared -o target/libtetrolet.so -Wl,--whole-archive crates/c_api/out/libc_api.a -Wl,--no-whole-archive

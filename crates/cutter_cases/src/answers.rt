@@ -67,8 +67,8 @@ fn cut(text: &[u8], out: &mut [u8; 65536]) -> usize
 
 // Both print.
 pub fn both(text: &[u8]) -> Answers {
-    let mut out = io::large_buffer();
-    let mut out2 = io::large_buffer();
+    let mut out = [0; 65536];
+    let mut out2 = [0; 65536];
     let n = cut(text, &mut out);
     let m = plain_cutter::cutter(text, &mut out2);
     if 65536 < m {

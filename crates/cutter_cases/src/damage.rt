@@ -4,6 +4,7 @@ use crate::seen::Seen;
 use crate::texts::Ask;
 use cases::safe::{over, plus, put_byte, rest, times};
 use plain_text::writing::put_text;
+use std::io;
 
 fn ask_of(height: usize, width: usize) -> Ask {
     Ask {
@@ -94,14 +95,14 @@ fn damage_group(before: Seen, k: Ask, ways: usize, step: usize) -> Seen {
 }
 
 // A square and two strips. A step has no factor in common with the ways, so that every place is met, and every way at one place in so many.
-pub fn tell_all() {
+pub fn tell_all(rt: &impl Print) -> io::Result<()> {
     let none = crate::seen::nothing();
     let small = damage_group(none, ask_of(4, 4), 512, 5);
     let wide = damage_group(small, ask_of(4, 8), 512, 5);
     let tall = damage_group(wide, ask_of(8, 4), 512, 5);
-    crate::seen::tell(b"4 by 4, 4 by 8 and 8 by 4, damaged:", tall);
+    crate::seen::tell(rt, "4 by 4, 4 by 8 and 8 by 4, damaged:", tall)?;
     let square = damage_group(none, ask_of(8, 8), 14, 5);
     let wider = damage_group(square, ask_of(8, 16), 14, 5);
     let taller = damage_group(wider, ask_of(16, 8), 14, 5);
-    crate::seen::tell(b"8 by 8, 8 by 16 and 16 by 8, damaged:", taller);
+    crate::seen::tell(rt, "8 by 8, 8 by 16 and 16 by 8, damaged:", taller)
 }

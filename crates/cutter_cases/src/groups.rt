@@ -3,6 +3,7 @@ use crate::answers::{DIFFERS, answer};
 use crate::seen::Seen;
 use crate::texts::Ask;
 use cases::safe::{minus, plus, put_byte, times};
+use std::io;
 
 // A height or a width: of pictures, and such as are 1, 12, or both at once.
 fn side_of(n: usize) -> usize {
@@ -120,7 +121,7 @@ fn length_group() -> Seen {
     s
 }
 
-pub fn tell_all() {
-    crate::seen::tell(b"mixtures:", mixture_group());
-    crate::seen::tell(b"lengths:", length_group());
+pub fn tell_all(rt: &impl Print) -> io::Result<()> {
+    crate::seen::tell(rt, "mixtures:", mixture_group())?;
+    crate::seen::tell(rt, "lengths:", length_group())
 }

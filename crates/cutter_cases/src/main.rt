@@ -2,6 +2,8 @@
 // (0 where a sheet was printed), and groups with how many inputs got which number. `ok` says that the two printed the same bytes.
 #![tactic(auto)]
 
+use std::io;
+
 mod answers;
 mod damage;
 mod groups;
@@ -9,8 +11,8 @@ mod named;
 mod seen;
 mod texts;
 
-fn main() {
-    named::tell_all();
-    groups::tell_all();
-    damage::tell_all();
+fn main(rt: HostRuntime) -> io::Result<()> {
+    named::tell_all(&rt)?;
+    groups::tell_all(&rt)?;
+    damage::tell_all(&rt)
 }

@@ -2,6 +2,7 @@
 use crate::answers::DIFFERS;
 use crate::texts::Ask;
 use cases::safe::plus;
+use std::io;
 
 #[derive(Clone, Copy)]
 pub struct Seen {
@@ -77,32 +78,30 @@ pub fn counted(s: Seen, k: Ask, number: usize) -> Seen {
     }
 }
 
-fn tell_count(before: &[u8], count: usize) {
-    io::write_all(1, before);
-    io::print_decimal(1, count as u64);
+fn tell_count(rt: &impl Print, before: &str, count: usize) -> io::Result<()> {
+    print!(rt; "{before}{count}")
 }
 
 // Prints the line of a group.
-pub fn tell(name: &[u8], s: Seen) {
-    io::write_all(1, name);
-    tell_count(b" inputs ", s.inputs);
-    tell_count(b", strips ", s.strips);
-    tell_count(b", sheets ", s.sheets);
-    tell_count(b", of strips ", s.strip_sheets);
-    tell_count(b", 1: ", s.r1);
-    tell_count(b", 2: ", s.r2);
-    tell_count(b", 4: ", s.r4);
-    tell_count(b", 7: ", s.r7);
-    tell_count(b", 9: ", s.r9);
-    tell_count(b", 12: ", s.r12);
-    tell_end(s.differing);
+pub fn tell(rt: &impl Print, name: &str, s: Seen) -> io::Result<()> {
+    print!(rt; "{name}")?;
+    tell_count(rt, " inputs ", s.inputs)?;
+    tell_count(rt, ", strips ", s.strips)?;
+    tell_count(rt, ", sheets ", s.sheets)?;
+    tell_count(rt, ", of strips ", s.strip_sheets)?;
+    tell_count(rt, ", 1: ", s.r1)?;
+    tell_count(rt, ", 2: ", s.r2)?;
+    tell_count(rt, ", 4: ", s.r4)?;
+    tell_count(rt, ", 7: ", s.r7)?;
+    tell_count(rt, ", 9: ", s.r9)?;
+    tell_count(rt, ", 12: ", s.r12)?;
+    tell_end(rt, s.differing)
 }
 
-fn tell_end(differing: usize) {
+fn tell_end(rt: &impl Print, differing: usize) -> io::Result<()> {
     if differing == 0 {
-        io::write_all(1, b" ok\n");
-        return;
+        return println!(rt; " ok");
     }
-    tell_count(b" differs ", differing);
-    io::write_all(1, b"\n");
+    tell_count(rt, " differs ", differing)?;
+    print!(rt; "\n")
 }
