@@ -3,7 +3,7 @@ use mathlib.Core.Path.{◌≡◌, refl, ap, ◌∙◌}
 use Prim.Native.Nat.{ℕ, suc, ◌+◌, ◌*◌, ◌-◌, ◌/◌, ◌%◌, ◌^◌, ◌<◌, ◌≤◌}
 use native.Mathlib.Nat.{pow-suc, mul-le-mul}
 use native.Mathlib.Omega.{arith}
-use Rattle.pyramid.specs.Plane.{Fits, blocks, all_blocks, halved}
+use Rattle.pyramid.specs.Plane.{Fits, all_blocks, halved}
 use Rattle.pyramid.proofs.Ranges.{halved_le}
 use Rattle.pyramid.proofs.Behind.{halved_suc, fits_behind, next_blocks, four_most}
 use Rattle.synthesis.proofs.Deeper.{Turn, turn_of, turn_takes}

@@ -1,6 +1,6 @@
 -- Step 3: the labels are a labelling, and no other has fewer deviations from the squares. Assumes nothing.
 use mathlib.Core.Path.{◌≡◌, sym, ap, subst, subst⁻¹}
-use mathlib.Core.Bool.{Bool, true, false, cond, not, ◌&&◌, ◌||◌}
+use mathlib.Core.Bool.{Bool, cond, not, ◌&&◌, ◌||◌}
 use mathlib.Core.List.{List, [], ◌∷◌}
 use mathlib.Core.Logic.{◌⊎◌, inl, inr}
 use Prim.Native.Nat.{ℕ, suc, ◌<◌, ◌≤◌}
@@ -8,7 +8,6 @@ use native.Mathlib.Omega.{arith}
 use lib.Dec.{T, eqb, eqb→eq, ltb, ltb→lt}
 use lib.ListN.{length, get_or}
 use Rattle.integers.specs.Lists.{every, one_of}
-use Rattle.integers.specs.Sum.{Σℕ}
 use Rattle.integers.proofs.Sums.{Σℕ_cong}
 use Rattle.integers.proofs.Tests.{both_left, both_right, either, refused, up_to, up_to_at, every_at}
 use Rattle.coverings.specs.Block.{name_of}

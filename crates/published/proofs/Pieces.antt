@@ -12,7 +12,7 @@ use lib.Seq.{get_or-append_seam}
 use Rattle.integers.specs.Sum.{Σℤ, Σℕ}
 use Rattle.integers.proofs.Ring.{k, ◌⊕◌, ring4}
 use Rattle.integers.proofs.Sums.{Σ_cong}
-use Rattle.coverings.specs.Block.{cells, with_if, filter, part, name_of}
+use Rattle.coverings.specs.Block.{cells, with_if, filter, name_of}
 use Rattle.coverings.specs.Words.{word_of}
 use Rattle.coverings.specs.Rule.{Number}
 use Rattle.coverings.proofs.Table.{rule}

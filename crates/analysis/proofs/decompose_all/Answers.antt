@@ -25,31 +25,31 @@ last : {rule : ℕ → Chooser} {R H W : ℕ} {s : List ℕ} {plane : List ℤ} 
 last {rule} {R} {H} {W} {s} {plane} {cov} {counts} {tall} {wide} {first} left e d = subst (λ (n : ℕ). Descended rule R H W s plane cov counts tall wide first n) e d
 
 pub needed_by-needed-requires : goal.needed_by-needed-requires
-needed_by-needed-requires c = (c.fours-fours.ensures, c.requires.1.1.2)
+needed_by-needed-requires c = (c.fours-fours.ensures, c.requires.by_index.2)
 
 pub widen-requires : goal.widen-requires
-widen-requires c = c.requires.1.0.1 ∙ sym c.requires.1.0.0
+widen-requires c = c.requires.samples_len.1 ∙ sym c.requires.samples_len.0
 
 pub overflow_mul-slack : goal.overflow_mul-slack
-overflow_mul-slack c = omega (arith, c.requires.1.1.1)
+overflow_mul-slack c = omega (arith, c.requires.by_index.1)
 
 pub loop-left-init : goal.loop-left-init
 loop-left-init c =
-    let z = sized c.args.levels c.args.height c.args.width c.requires.0.0 c.requires.0.1 c.requires.0.2 in (
+    let z = sized c.args.levels c.args.height c.args.width c.requires.t.0 c.requires.t.1 c.requires.t.2 in (
       levels_small z,
       side_small z.tall,
       side_small z.wide,
       c.placements-placements.ensures,
       c.fours-fours.ensures,
       c.cells-cells.ensures,
-      c.widen.auto.1.0 ∙ c.requires.1.0.1,
-      c.requires.1.0.2,
-      c.requires.1.0.3,
+      c.widen.auto.to ∙ c.requires.samples_len.1,
+      c.requires.samples_len.2,
+      c.requires.samples_len.3,
       subst⁻¹ (λ (p : List ℤ). Descended (by_terms (among c.args.tolerance c.args.list.now)) c.args.levels c.args.height c.args.width c.args.samples.now p c.args.coverings.now c.new-chosen.result.counts c.args.height c.args.width 0 c.args.levels) c.widen.ensures
-          (descend_start (by_terms (among c.args.tolerance c.args.list.now)) c.args.levels c.args.height c.args.width c.args.samples.now c.args.coverings.now _ (sized_fits z) c.requires.1.1.0 c.new-chosen.ensures),
-      c.requires.1.1.1,
+          (descend_start (by_terms (among c.args.tolerance c.args.list.now)) c.args.levels c.args.height c.args.width c.args.samples.now c.args.coverings.now _ (sized_fits z) c.requires.by_index.0 c.new-chosen.ensures),
+      c.requires.by_index.1,
       allowed_first c.args.tolerance c.args.levels,
-      c.requires.1.1.2,
+      c.requires.by_index.2,
       c.needed_by-needed.ensures,
     )
 
@@ -57,14 +57,14 @@ pub forward_level-chosen-requires : goal.forward_level-chosen-requires
 forward_level-chosen-requires c =
     let inv = c.loop-left.invariant in
     let d = next c.loop-left.left (omega arith) inv.9 in
-    ((inv.3, inv.4, inv.5), (worked_region _ _ inv.1 inv.2 inv.6 inv.8 d.worked, rw inv.7 (worked_room _ _ _ _ _ _ _ _ _ _ _ d.worked), descend_small inv.0 d, worked_few _ _ _ _ _ _ _ _ _ _ _ inv.0 inv.1 inv.2 d.worked, d.counted, allowed_small _ _ _ c.loop-left.left inv.10 inv.0 inv.11, inv.12, inv.13))
+    record { placements_value = (inv.3, inv.4, inv.5); region = (worked_region _ _ inv.1 inv.2 inv.6 inv.8 d.worked, rw inv.7 (worked_room _ _ _ _ _ _ _ _ _ _ _ d.worked), descend_small inv.0 d, worked_few _ _ _ _ _ _ _ _ _ _ _ inv.0 inv.1 inv.2 d.worked, d.counted, allowed_small _ _ _ c.loop-left.left inv.10 inv.0 inv.11, inv.12, inv.13) }
 
 pub copy_rectangle-requires : goal.copy_rectangle-requires
 copy_rectangle-requires c =
     let inv = c.loop-left.invariant in
     let d = next c.loop-left.left (omega arith) inv.9 in
     let q = worked_region _ _ inv.1 inv.2 inv.6 inv.8 d.worked in
-    (q.inside, le_trans q.stored (le_of_eq (sym c.forward_level-chosen.auto.1.1.1.1.1.1.1.1.1.0)), q.read)
+    (q.inside, le_trans q.stored (le_of_eq (sym c.forward_level-chosen.auto.out)), q.read)
 
 pub overflow_mul-first : goal.overflow_mul-first
 overflow_mul-first c =
@@ -76,7 +76,7 @@ pub overflow_add-first : goal.overflow_add-first
 overflow_add-first c =
     let inv = c.loop-left.invariant in
     let d = next c.loop-left.left (omega arith) inv.9 in
-    omega (arith, worked_room _ _ _ _ _ _ _ _ _ _ _ d.worked, inv.7, c.well_formed.1.1.1.1.1.0, c.requires.1.0.2)
+    omega (arith, worked_room _ _ _ _ _ _ _ _ _ _ _ d.worked, inv.7, c.well_formed, c.requires.samples_len.2)
 
 pub overflow_mul-slack-in-loop-left : goal.overflow_mul-slack-in-loop-left
 overflow_mul-slack-in-loop-left c =
@@ -102,9 +102,9 @@ loop-left-preserved c =
       inv.3,
       inv.4,
       inv.5,
-      c.copy_rectangle.auto.1.0 ∙ inv.6,
-      kept.1.1.1.1.1.1.1.1.0 ∙ inv.7,
-      kept.1.1.1.1.1.1.1.1.1.0 ∙ inv.8,
+      c.copy_rectangle.auto.to ∙ inv.6,
+      kept.coverings ∙ inv.7,
+      kept.out ∙ inv.8,
       subst⁻¹ (λ (p : List ℤ). Descended (by_terms (among c.args.tolerance c.args.list.now)) c.args.levels c.args.height c.args.width c.args.samples.now p c.forward_level-chosen.new.coverings c.forward_level-chosen.result.counts (c.loop-left.tall / 2) (c.loop-left.wide / 2)
           (c.loop-left.first + c.loop-left.wide / 4 * (c.loop-left.tall / 4)) (c.loop-left.left - 1)) c.copy_rectangle.ensures
           (descend_step (by_terms (among c.args.tolerance c.args.list.now)) (terms_read (among c.args.tolerance c.args.list.now)) _ _ _ _ _ _ _ _ _ _ _ d _ _ _ inv.6 (rw inv.7 (worked_room _ _ _ _ _ _ _ _ _ _ _ d.worked)) (levelled_as c.args.list.now (inv.11 ∙ ap (λ (n : ℕ). c.args.tolerance * 2 ^ suc n) done-is) c.forward_level-chosen.ensures)),
@@ -115,13 +115,13 @@ loop-left-preserved c =
     )
 
 pub shape_of-plane : goal.shape_of-plane
-shape_of-plane c = omega (arith, c.loop-left.invariant.6, c.requires.1.0.1)
+shape_of-plane c = omega (arith, c.loop-left.invariant.6, c.requires.samples_len.1)
 
 pub shape_of-coverings : goal.shape_of-coverings
-shape_of-coverings c = omega (arith, c.loop-left.invariant.7, c.requires.1.0.2)
+shape_of-coverings c = omega (arith, c.loop-left.invariant.7, c.requires.samples_len.2)
 
 pub shape_of-scratch : goal.shape_of-scratch
-shape_of-scratch c = omega (arith, c.clear.auto.0, c.loop-left.invariant.8, c.requires.1.0.3)
+shape_of-scratch c = omega (arith, c.clear.auto.s, c.loop-left.invariant.8, c.requires.samples_len.3)
 
 pub returns : goal.returns
 returns c =

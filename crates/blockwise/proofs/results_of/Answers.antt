@@ -1,11 +1,10 @@
 -- `blockwise::results_of` meets its contract. Assumes nothing.
 use mathlib.Core.Path.{refl, sym, ap, ◌∙◌, subst}
-use Prim.Native.Nat.{◌+◌, ◌*◌, ◌-◌, ◌/◌, ◌%◌, ◌<◌, ◌≤◌, ◌^◌}
+use Prim.Native.Nat.{◌+◌, ◌*◌, ◌/◌, ◌%◌, ◌<◌, ◌≤◌, ◌^◌}
 use native.Mathlib.Omega.{arith}
 use lib.IntN.{ℤ, pos, nat_abs, ◌*ℤ◌}
 use lib.ListN.{length, get_or, length-set}
 use mir.Syntax.{w64}
-use Rattle.integers.specs.Lists.{half}
 use Rattle.integers.proofs.Half.{half_store}
 use Rattle.integers.proofs.Signs.{kept}
 use Rattle.integers.proofs.Bound.{sfits64, read}
@@ -24,7 +23,7 @@ near c = let l = c.loop-k in (result_near l.k c.args.height, l.invariant.2 (l.k 
 
 pub loop-k-init : goal.loop-k-init
 unfolding results_over
-loop-k-init c = (omega arith, omega arith, c.requires.0, refl, refl, refl)
+loop-k-init c = (omega arith, omega arith, c.requires.by_index, refl, refl, refl)
 
 pub offset_bounds-begin-k : goal.offset_bounds-begin-k
 offset_bounds-begin-k c = omega arith
@@ -51,9 +50,9 @@ pub count-requires : goal.count-requires
 count-requires c =
     let a = c.args in
     let k = c.loop-k.k in (
-      c.requires.1.0,
+      c.requires.weight_bound.0,
       rw (kept c.count-arg-1.given, counted_high a.weight k (at a.plane.now (band_place a.height a.begin k)) (omega arith), ← over_high a.weight (band_place a.height a.begin) a.low a.plane.now k (omega arith) (omega arith))
-          (c.requires.1.1 k (omega arith)),
+          (c.requires.weight_bound.1 k (omega arith)),
     )
 
 pub offset_bounds-v-k : goal.offset_bounds-v-k
@@ -72,7 +71,7 @@ loop-k-preserved c =
     let k = c.loop-k.k in
     let g = band_place a.height a.begin in
     let z = at a.plane.now (g k) in
-    let bound : nat_abs (pos a.weight *ℤ z) ≤ 2 ^ 40 = subst (λ (z : ℤ). nat_abs z ≤ 2 ^ 40) (over_high a.weight g a.low a.plane.now k (omega arith) (omega arith)) (c.requires.1.1 k (omega arith)) in (
+    let bound : nat_abs (pos a.weight *ℤ z) ≤ 2 ^ 40 = subst (λ (z : ℤ). nat_abs z ≤ 2 ^ 40) (over_high a.weight g a.low a.plane.now k (omega arith) (omega arith)) (c.requires.weight_bound.1 k (omega arith)) in (
       omega arith,
       omega arith,
       inv.2,

@@ -3,7 +3,6 @@ use mathlib.Core.Path.{◌≡◌}
 use Prim.Native.Nat.{ℕ, ◌+◌, ◌-◌, ◌<◌, ◌≤◌}
 use lib.ListN.{length, get_or}
 use Rattle.integers.specs.Lists.{half}
-use Rattle.kernel.specs.Kernel.{at}
 use Rattle.grid.specs.Grid.{band_place}
 use Rattle.blockwise.specs.Node.{results_over}
 use Rattle.blockwise.proofs.results_of.Given as goal

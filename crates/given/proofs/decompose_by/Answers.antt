@@ -26,40 +26,31 @@ last {R} {H} {W} {cs} {A} {plane} {tall} {wide} {first} left e d = subst (λ (n 
 
 pub loop-left-init : goal.loop-left-init
 loop-left-init c =
-    (c.requires.1.0.1, c.requires.1.0.2, given_start c.args.levels c.args.height c.args.width (listed c.args.coverings.now) c.args.image.now c.requires.0.1 c.requires.1.1.1)
+    (c.requires.coverings_len.1, c.requires.coverings_len.2, given_start c.args.levels c.args.height c.args.width (listed c.args.coverings.now) c.args.image.now c.requires.cells_value.1 c.requires.numbers.1)
 
 pub level_by-requires : goal.level_by-requires
 level_by-requires c =
-    let deeper : (let l = c.loop-left in let a) = c.args in
-    Given a.levels a.height a.width (listed a.coverings.now) (image_of a.height a.image.now) l.image l.tall l.wide l.first (suc (l.left - 1)) = next c.loop-left.left (omega arith) c.loop-left.invariant.2 in
-    let d = deeper in
-
-record { cells_value =
-    let deeper : (let l = c.loop-left in let a) = c.args in
-    Given a.levels a.height a.width (listed a.coverings.now) (image_of a.height a.image.now) l.image l.tall l.wide l.first (suc (l.left - 1)) = next c.loop-left.left (omega arith) c.loop-left.invariant.2 in
-    let region : (let l = c.loop-left in Region c.args.height l.tall l.wide (length l.image) (length l.work)) = let inv = c.loop-left.invariant in worked_region _ _ c.requires.0.3 c.requires.0.4 inv.0 inv.1 deeper.worked in
-    (c.requires.0.0, given_numbers _ _ _ _ _ _ _ _ _ _ c.requires.1.1.0 d); region = (region, rw c.requires.1.0.0 (worked_room _ _ _ _ _ _ _ _ _ _ _ d.worked), given_small c.requires.0.2 d) }
+    let deeper : (let l = c.loop-left in let a = c.args in Given a.levels a.height a.width (listed a.coverings.now) (image_of a.height a.image.now) l.image l.tall l.wide l.first (suc (l.left - 1))) = next c.loop-left.left (omega arith) c.loop-left.invariant.2 in
+    let region : (let l = c.loop-left in Region c.args.height l.tall l.wide (length l.image) (length l.work)) = let inv = c.loop-left.invariant in worked_region _ _ c.requires.cells_value.3 c.requires.cells_value.4 inv.0 inv.1 deeper.worked in
+    record { cells_value = (c.requires.cells_value.0, given_numbers _ _ _ _ _ _ _ _ _ _ c.requires.numbers.0 deeper); region = (region, rw c.requires.coverings_len.0 (worked_room _ _ _ _ _ _ _ _ _ _ _ deeper.worked), given_small c.requires.cells_value.2 deeper) }
 
 pub copy_rectangle-requires : goal.copy_rectangle-requires
 copy_rectangle-requires c =
-    let deeper : (let l = c.loop-left in let a) = c.args in
-    Given a.levels a.height a.width (listed a.coverings.now) (image_of a.height a.image.now) l.image l.tall l.wide l.first (suc (l.left - 1)) = next c.loop-left.left (omega arith) c.loop-left.invariant.2 in
-    let region : (let l = c.loop-left in Region c.args.height l.tall l.wide (length l.image) (length l.work)) = let inv = c.loop-left.invariant in worked_region _ _ c.requires.0.3 c.requires.0.4 inv.0 inv.1 deeper.worked in
+    let deeper : (let l = c.loop-left in let a = c.args in Given a.levels a.height a.width (listed a.coverings.now) (image_of a.height a.image.now) l.image l.tall l.wide l.first (suc (l.left - 1))) = next c.loop-left.left (omega arith) c.loop-left.invariant.2 in
+    let region : (let l = c.loop-left in Region c.args.height l.tall l.wide (length l.image) (length l.work)) = let inv = c.loop-left.invariant in worked_region _ _ c.requires.cells_value.3 c.requires.cells_value.4 inv.0 inv.1 deeper.worked in
     let q = region in
-    (q.inside, le_trans q.stored (le_of_eq (sym c.level_by.auto.1.1.1.1.1.1.1.0)), q.read)
+    (q.inside, le_trans q.stored (le_of_eq (sym c.level_by.auto.out)), q.read)
 
 pub overflow_mul-first : goal.overflow_mul-first
 overflow_mul-first c =
-    let deeper : (let l = c.loop-left in let a) = c.args in
-    Given a.levels a.height a.width (listed a.coverings.now) (image_of a.height a.image.now) l.image l.tall l.wide l.first (suc (l.left - 1)) = next c.loop-left.left (omega arith) c.loop-left.invariant.2 in
-    let region : (let l = c.loop-left in Region c.args.height l.tall l.wide (length l.image) (length l.work)) = let inv = c.loop-left.invariant in worked_region _ _ c.requires.0.3 c.requires.0.4 inv.0 inv.1 deeper.worked in
+    let deeper : (let l = c.loop-left in let a = c.args in Given a.levels a.height a.width (listed a.coverings.now) (image_of a.height a.image.now) l.image l.tall l.wide l.first (suc (l.left - 1))) = next c.loop-left.left (omega arith) c.loop-left.invariant.2 in
+    let region : (let l = c.loop-left in Region c.args.height l.tall l.wide (length l.image) (length l.work)) = let inv = c.loop-left.invariant in worked_region _ _ c.requires.cells_value.3 c.requires.cells_value.4 inv.0 inv.1 deeper.worked in
     omega (arith, blocks_few region)
 
 pub overflow_add-first : goal.overflow_add-first
 overflow_add-first c =
-    let deeper : (let l = c.loop-left in let a) = c.args in
-    Given a.levels a.height a.width (listed a.coverings.now) (image_of a.height a.image.now) l.image l.tall l.wide l.first (suc (l.left - 1)) = next c.loop-left.left (omega arith) c.loop-left.invariant.2 in
-    omega (arith, worked_room _ _ _ _ _ _ _ _ _ _ _ deeper.worked, c.requires.0.2, all_few c.args.levels c.args.height c.args.width c.requires.0.3 c.requires.0.4)
+    let deeper : (let l = c.loop-left in let a = c.args in Given a.levels a.height a.width (listed a.coverings.now) (image_of a.height a.image.now) l.image l.tall l.wide l.first (suc (l.left - 1))) = next c.loop-left.left (omega arith) c.loop-left.invariant.2 in
+    omega (arith, worked_room _ _ _ _ _ _ _ _ _ _ _ deeper.worked, c.requires.cells_value.2, all_few c.args.levels c.args.height c.args.width c.requires.cells_value.3 c.requires.cells_value.4)
 
 pub overflow_sub-left : goal.overflow_sub-left
 overflow_sub-left c = omega arith
@@ -69,21 +60,20 @@ loop-left-smaller c = omega arith
 
 pub loop-left-preserved : goal.loop-left-preserved
 loop-left-preserved c =
-    let deeper : (let l = c.loop-left in let a) = c.args in
-    Given a.levels a.height a.width (listed a.coverings.now) (image_of a.height a.image.now) l.image l.tall l.wide l.first (suc (l.left - 1)) = next c.loop-left.left (omega arith) c.loop-left.invariant.2 in
+    let deeper : (let l = c.loop-left in let a = c.args in Given a.levels a.height a.width (listed a.coverings.now) (image_of a.height a.image.now) l.image l.tall l.wide l.first (suc (l.left - 1))) = next c.loop-left.left (omega arith) c.loop-left.invariant.2 in
     let loop = c.loop-left in
     let inv = loop.invariant in (
-      c.copy_rectangle.auto.1.0 ∙ inv.0,
-      c.level_by.auto.1.1.1.1.1.1.1.0 ∙ inv.1,
+      c.copy_rectangle.auto.to ∙ inv.0,
+      c.level_by.auto.out ∙ inv.1,
       subst⁻¹ (λ (p : List ℤ). Given c.args.levels c.args.height c.args.width (listed c.args.coverings.now) (image_of c.args.height c.args.image.now) p (loop.tall / 2) (loop.wide / 2) (loop.first + blocks loop.tall loop.wide) (loop.left - 1)) c.copy_rectangle.ensures
           (given_step _ _ _ _ _ _ _ _ _ _ deeper _ inv.0 c.level_by.ensures),
     )
 
 pub shape_of-image : goal.shape_of-image
-shape_of-image c = omega (arith, c.loop-left.invariant.0, c.requires.1.0.1)
+shape_of-image c = omega (arith, c.loop-left.invariant.0, c.requires.coverings_len.1)
 
 pub shape_of-work : goal.shape_of-work
-shape_of-work c = omega (arith, c.loop-left.invariant.1, c.requires.1.0.2)
+shape_of-work c = omega (arith, c.loop-left.invariant.1, c.requires.coverings_len.2)
 
 pub returns : goal.returns
 returns c =

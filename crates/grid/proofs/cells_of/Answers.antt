@@ -1,10 +1,8 @@
 -- `grid::cells_of` meets its contract. Assumes nothing.
 use mathlib.Core.Path.{refl, sym, ◌∙◌}
-use Prim.Native.Nat.{◌-◌}
 use native.Mathlib.Omega.{arith}
 use lib.IntN.{pos}
-use lib.ListN.{length, get_or, length-set}
-use Rattle.integers.specs.Lists.{half}
+use lib.ListN.{get_or, length-set}
 use Rattle.integers.proofs.Half.{half_store, half_end}
 use Rattle.integers.proofs.Signs.{kept}
 use Rattle.integers.proofs.Tabulate.{length_tabulate, get_d_tabulate}

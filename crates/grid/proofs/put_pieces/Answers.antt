@@ -1,13 +1,11 @@
 -- `grid::put_pieces` meets its contract. Assumes nothing.
-use mathlib.Core.Path.{◌≡◌, refl, ap}
-use Prim.Native.Nat.{◌+◌, ◌*◌, ◌-◌, ◌/◌, ◌%◌, ◌<◌}
+use mathlib.Core.Path.{◌≡◌, refl}
+use Prim.Native.Nat.{◌+◌, ◌*◌, ◌/◌, ◌%◌, ◌<◌}
 use native.Mathlib.Numerals.{add-one}
 use native.Mathlib.Omega.{arith}
-use lib.ListN.{length, length-set, set}
+use lib.ListN.{length, length-set}
 use Rattle.integers.proofs.Signs.{kept}
 use Rattle.slices.specs.Stores.{scatter}
-use Rattle.tables.specs.Tables.{cell_at}
-use Rattle.kernel.specs.Kernel.{at}
 use Rattle.grid.proofs.Near.{column_near}
 use Rattle.grid.proofs.put_pieces.Goals as goal
 use Rattle.grid.proofs.put_pieces.Goals.{After-cell_at-cell}

@@ -1,12 +1,11 @@
 -- `grid::put_results` meets its contract. Assumes nothing.
 use mathlib.Core.Path.{◌≡◌, refl}
-use Prim.Native.Nat.{◌-◌, ◌/◌}
+use Prim.Native.Nat.{◌/◌}
 use native.Mathlib.Numerals.{add-one}
 use native.Mathlib.Omega.{arith}
-use lib.ListN.{length, length-set}
+use lib.ListN.{length-set}
 use Rattle.integers.proofs.Signs.{kept}
 use Rattle.slices.specs.Stores.{scatter}
-use Rattle.kernel.specs.Kernel.{at}
 use Rattle.grid.proofs.Near.{result_near}
 use Rattle.grid.proofs.put_results.Goals as goal
 

@@ -6,6 +6,7 @@ use Rattle.sifting.specs.Sifting.{Ready}
 use Rattle.keeping.specs.Entries.{keep_refusal}
 use Rattle.keeping.proofs.Checks.{sized, refuses, ready, keeps}
 use Rattle.keeping.proofs.keep.Goals as goal
+use Rattle.keeping.proofs.keep.Goals.{In_default}
 
 accepted : (c : goal.In_default) → let a = c.args in 0 ≡ keep_refusal a.height a.width a.levels a.plane.now a.quota
 accepted c = passed_by c.in_default.is c.keep_checks-found.ensures
@@ -32,9 +33,9 @@ pub overflow_sub-quota : goal.overflow_sub-quota
 overflow_sub-quota c = c.limit_of-limit.ensures.few
 
 pub sift-requires : goal.sift-requires
-sift-requires c = passed c.before.before.before
+sift-requires c = passed (goal.at.sift-requires c).In_default
 
 pub returns : goal.returns
 returns c =
     let l = c.limit_of-limit in
-    keeps _ _ _ _ _ (accepted c.before.before.before.before.before) _ l.result.base l.result.over c.sift.result l.ensures c.sift.ensures
+    keeps _ _ _ _ _ (accepted (goal.at.returns c).In_default) _ l.result.base l.result.over c.sift.result l.ensures c.sift.ensures

@@ -8,6 +8,7 @@ use Rattle.sifting.specs.Sifting.{Ready}
 use Rattle.keeping.specs.Entries.{cut_refusal}
 use Rattle.keeping.proofs.Checks.{sized, rejects, cuttable, cuts}
 use Rattle.keeping.proofs.threshold.Goals as goal
+use Rattle.keeping.proofs.threshold.Goals.{In_default}
 
 accepted : (c : goal.In_default) → let a = c.args in 0 ≡ cut_refusal a.height a.width a.levels a.plane.now a.limit
 accepted c = passed_by c.in_default.is c.threshold_checks-found.ensures
@@ -35,14 +36,14 @@ doubled-requires c = (sized (passed c).0).few
 
 pub overflow_mul-least : goal.overflow_mul-least
 overflow_mul-least c =
-    let p : 2 ^ c.args.levels ≤ 2 ^ 8 = pow-le-pow_right {n = 2} (omega arith) (sized (passed c.before).0).few in
+    let p : 2 ^ c.args.levels ≤ 2 ^ 8 = pow-le-pow_right {n = 2} (omega arith) (sized (passed (goal.at.overflow_mul-least c).In_default).0).few in
     let d : c.doubled.result ≤ 256 = omega (arith, c.doubled.ensures) in
-    omega (arith, mul-le-mul (passed c.before).1 d)
+    omega (arith, mul-le-mul (passed (goal.at.overflow_mul-least c).In_default).1 d)
 
 pub sift-requires : goal.sift-requires
-sift-requires c = (passed c.before.before).0
+sift-requires c = (passed (goal.at.sift-requires c).In_default).0
 
 pub returns : goal.returns
 returns c =
     let a = c.args in
-    cuts _ _ _ _ _ (accepted c.before.before.before.before) _ _ _ c.sift.result (ap (λ (x : ℕ). a.limit * x) c.doubled.ensures) refl c.sift.ensures
+    cuts _ _ _ _ _ (accepted (goal.at.returns c).In_default) _ _ _ c.sift.result (ap (λ (x : ℕ). a.limit * x) c.doubled.ensures) refl c.sift.ensures

@@ -3,7 +3,7 @@ use mathlib.Core.Path.{◌≡◌}
 use Prim.Native.Nat.{◌-◌, ◌/◌, ◌≤◌}
 use lib.ListN.{length}
 use Rattle.pyramid.specs.Plane.{after, listed}
-use Rattle.synthesis.specs.Synthesis.{merged_block, put_column, put_columns}
+use Rattle.synthesis.specs.Synthesis.{merged_block, put_columns}
 use Rattle.synthesis.proofs.merge_level.Given as goal
 
 abbrev pub invariant-loop-j : goal.invariant-loop-j

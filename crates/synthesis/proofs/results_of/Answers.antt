@@ -1,11 +1,10 @@
 -- `synthesis::results_of` meets its contract. Assumes nothing.
 use mathlib.Core.Path.{refl, sym, ap, ◌∙◌}
-use Prim.Native.Nat.{◌-◌, ◌/◌, ◌≤◌, ◌^◌}
+use Prim.Native.Nat.{◌/◌, ◌≤◌, ◌^◌}
 use native.Mathlib.Omega.{arith}
 use lib.IntN.{pos, nat_abs}
-use lib.ListN.{length, length-set}
+use lib.ListN.{length-set}
 use mir.Syntax.{w64}
-use Rattle.integers.specs.Lists.{half}
 use Rattle.integers.proofs.Half.{half_store, half_end}
 use Rattle.integers.proofs.Signs.{kept}
 use Rattle.integers.proofs.Bound.{sfits64, read}

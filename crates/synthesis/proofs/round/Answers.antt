@@ -1,13 +1,11 @@
 -- `synthesis::round` meets its contract. Assumes nothing.
 use mathlib.Core.Path.{◌≡◌, refl, sym, ap, ◌∙◌}
 use mathlib.Core.List.{map}
-use Prim.Native.Nat.{◌-◌}
 use native.Mathlib.Omega.{arith}
 use lib.IntN.{pos}
-use lib.ListN.{length, get_or, length-set, length-map, get_or-map}
+use lib.ListN.{get_or, length-set, length-map, get_or-map}
 use mir.Syntax.{w64}
 use mir.Val.{to_z, of_z}
-use Rattle.integers.specs.Lists.{half}
 use Rattle.integers.proofs.Half.{half_store, half_end}
 use Rattle.integers.proofs.Signs.{kept}
 use Rattle.pyramid.specs.Slices.{sample_of}

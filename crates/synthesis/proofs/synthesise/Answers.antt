@@ -122,8 +122,11 @@ returns c =
     let a = c.args in
     let values : ℕ → ℕ → List ℤ = merged_block a.height a.height a.width l.weight (after 0 (listed a.coverings.now)) l.numerators in
     let columns = put_columns a.height values (a.height / 4) (a.width / 4) l.scratch in
-    let q : a.levels - 0 ≡ a.levels = omega arith in record { numerators_after = reach_all c.requires.mergeable _ (ap length c.rise-2.ensures.numerators_after ∙ length_rectangles columns a.height a.height last_level.inside l.numerators a.width ∙ l.invariant.3)
+    let q : a.levels - 0 ≡ a.levels = omega arith in record {
+      numerators_after = reach_all c.requires.mergeable _ (ap length c.rise-2.ensures.numerators_after ∙ length_rectangles columns a.height a.height last_level.inside l.numerators a.width ∙ l.invariant.3)
           (subst⁻¹ (λ (x : List ℤ). Reached a.height a.width 0 a.levels a.coverings.now (image_of a.height a.numerators.now) (image_of a.height x)) c.rise-2.ensures.numerators_after
           (subst (λ (k : ℕ). Reached a.height a.width 0 k a.coverings.now (image_of a.height a.numerators.now) (image_of a.height (rectangles a.height a.height a.width columns l.numerators))) q
-          (turn_reached c.requires.mergeable last l.numerators l.invariant.3 l.invariant.5 l.scratch l.invariant.4))); scratch_after = c.clear.ensures
-          ∙ ap (λ (n : ℕ). replicate n (pos 0)) (ap length c.rise-2.ensures.scratch_after ∙ columns_length a.height values (a.height / 4) (a.width / 4) l.scratch (omega (arith, last_level.inside)) ∙ l.invariant.4) }
+          (turn_reached c.requires.mergeable last l.numerators l.invariant.3 l.invariant.5 l.scratch l.invariant.4)));
+      scratch_after = c.clear.ensures
+          ∙ ap (λ (n : ℕ). replicate n (pos 0)) (ap length c.rise-2.ensures.scratch_after ∙ columns_length a.height values (a.height / 4) (a.width / 4) l.scratch (omega (arith, last_level.inside)) ∙ l.invariant.4);
+    }

@@ -12,62 +12,61 @@ use Rattle.windows.specs.Shown.{sample_at}
 use Rattle.windows.proofs.Filling.{inside_most, kept_refl, kept_trans, told}
 use borrow.Author.Count.{below_more}
 use Rattle.windows.proofs.fill_column.Goals as goal
+use Rattle.windows.proofs.fill_column.Goals.{In-loop-i}
 
 -- the block row c one of the last level
 row : (c : goal.In-loop-i) → let a = c.args in c.loop-i.i < halved (a.levels - 1) a.height / 4
 row c =
     let a = c.args in
-    let p = c.requires.1.0 in
+    let p = c.requires.restorable in
     omega (arith, c.loop-i-test.true, c.block_of-last.ensures, cell_below (a.levels - 1) a.height (a.v.top + a.v.tall - 1) (down (a.levels - 1) a.levels a.height a.width (omega (arith, p.0.some)) p.0.fits) (omega (arith, p.1.down, p.1.some_rows)))
 
 pub overflow_add-v : goal.overflow_add-v
-overflow_add-v c = let p = c.requires.1.0 in omega (arith, p.1.down, p.0.height)
+overflow_add-v c = let p = c.requires.restorable in omega (arith, p.1.down, p.0.height)
 
 pub overflow_sub-v : goal.overflow_sub-v
-overflow_sub-v c = let p = c.requires.1.0 in omega (arith, p.1.some_rows)
+overflow_sub-v c = let p = c.requires.restorable in omega (arith, p.1.some_rows)
 
 pub overflow_sub-levels : goal.overflow_sub-levels
-overflow_sub-levels c = let p = c.requires.1.0 in omega (arith, p.0.some)
+overflow_sub-levels c = let p = c.requires.restorable in omega (arith, p.0.some)
 
 pub block_of-last-requires : goal.block_of-last-requires
-block_of-last-requires c = let p = c.requires.1.0 in omega (arith, p.0.most)
+block_of-last-requires c = let p = c.requires.restorable in omega (arith, p.0.most)
 
 pub overflow_sub-levels-2 : goal.overflow_sub-levels-2
-overflow_sub-levels-2 c = let p = c.requires.1.0 in omega (arith, p.0.some)
+overflow_sub-levels-2 c = let p = c.requires.restorable in omega (arith, p.0.some)
 
 pub block_of-i-requires : goal.block_of-i-requires
-block_of-i-requires c = let p = c.requires.1.0 in omega (arith, p.0.most)
+block_of-i-requires c = let p = c.requires.restorable in omega (arith, p.0.most)
 
 pub loop-i-init : goal.loop-i-init
 loop-i-init c = (kept_refl _ _ _, λ p l f. absurd (omega arith))
 
 pub first_node-k-requires : goal.first_node-k-requires
 first_node-k-requires c =
-    let p = c.requires.1.0.0 in
-    ((p.fits, p.some, p.most, p.height, p.width, p.covered), (row c, c.requires.1.1.0))
+    let p = c.requires.restorable.0 in
+    record { fits = (p.fits, p.some, p.most, p.height, p.width, p.covered); i_bound = (row c, c.requires.j_bound.0) }
 
 pub last-low-requires : goal.last-low-requires
 last-low-requires c =
-    let i = c.before in
     let a = c.args in
-    let p = c.requires.1.0.0 in
-    let below : c.loop-i.i * 2 + 1 < a.height = omega (arith, row c.before, halved_le (a.levels - 1) a.height) in
-    let across : a.j * 2 + 1 < a.width = omega (arith, c.requires.1.1.0, halved_le (a.levels - 1) a.width) in
+    let p = c.requires.restorable.0 in
+    let below : c.loop-i.i * 2 + 1 < a.height = omega (arith, row (goal.at.last-low-requires c).In-loop-i, halved_le (a.levels - 1) a.height) in
+    let across : a.j * 2 + 1 < a.width = omega (arith, c.requires.j_bound.0, halved_le (a.levels - 1) a.width) in
     (p.height, omega (arith, p.height), omega (arith, p.width), omega (arith, index_bound (a.j * 2 + 1) (c.loop-i.i * 2 + 1) a.width a.height across below, p.plane_long))
 
 pub fill-requires : goal.fill-requires
 fill-requires c =
     let a = c.args in
-    let p = c.requires.1 in
+    let p = c.requires.restorable in
     let k = c.first_node-k.ensures in
-    let q = asked (block_at a.levels a.height a.width a.levels c.loop-i.i a.j) a.coverings.now a.plane.now k.0 a.unit p.0.0 k.1 p.1.1
+    let q = asked (block_at a.levels a.height a.width a.levels c.loop-i.i a.j) a.coverings.now a.plane.now k.0 a.unit p.0 k.1 c.requires.j_bound.1
     (values_last a.levels a.height a.width a.coverings.now a.plane.now c.loop-i.i a.j c.last-low.ensures) in
-record { cells_value = ((c.requires.0, (q.0, (q.1, (inside_most a.v a.height a.width p.0.1 p.0.0.height p.0.0.width, c.loop-i.invariant.0.long ∙ p.0.2))))).0; restorable = ((c.requires.0, (q.0, (q.1, (inside_most a.v a.height a.width p.0.1 p.0.0.height p.0.0.width, c.loop-i.invariant.0.long ∙ p.0.2))))).1; low_value = ((c.requires.0, (q.0, (q.1, (inside_most a.v a.height a.width p.0.1 p.0.0.height p.0.0.width, c.loop-i.invariant.0.long ∙ p.0.2))))).2; inside = ((c.requires.0, (q.0, (q.1, (inside_most a.v a.height a.width p.0.1 p.0.0.height p.0.0.width, c.loop-i.invariant.0.long ∙ p.0.2))))).3 }
+    record { cells_value = c.requires.cells_value; restorable = q.0; low_value = q.1; inside = (inside_most a.v a.height a.width p.1 p.0.height p.0.width, c.loop-i.invariant.0.long ∙ p.2) }
 
 pub overflow_add-i : goal.overflow_add-i
 overflow_add-i c =
-    let i = c.before.before.before.before.before.before in
-    omega (arith, row c.before.before.before.before.before.before, halved_le (c.args.levels - 1) c.args.height, c.requires.1.0.0.height)
+    omega (arith, row (goal.at.overflow_add-i c).In-loop-i, halved_le (c.args.levels - 1) c.args.height, c.requires.restorable.0.height)
 
 pub loop-i-smaller : goal.loop-i-smaller
 loop-i-smaller c = omega (arith, c.loop-i-test.true)

@@ -6,4 +6,4 @@ use Rattle.windows.proofs.store_block.Goals as goal
 pub store_whole-requires : goal.store_whole-requires
 store_whole-requires c =
     let p = c.requires in
-record { inside = (((p.0.0, p.0.1, subst T (sym c.if-holds.true ∙ c.holds.ensures) tt), p.1)).0; levels_bound = (((p.0.0, p.0.1, subst T (sym c.if-holds.true ∙ c.holds.ensures) tt), p.1)).1; by_index = (((p.0.0, p.0.1, subst T (sym c.if-holds.true ∙ c.holds.ensures) tt), p.1)).2 }
+    record { inside = (p.inside.0, p.inside.1, subst T (sym c.if-holds.true ∙ c.holds.ensures) tt); levels_bound = p.levels_bound; by_index = p.by_index }

@@ -1,7 +1,7 @@
 -- `windows::store_column` meets its contract. Assumes nothing.
 use mathlib.Core.Path.{◌≡◌, refl, ap, ◌∙◌}
 use mathlib.Core.List.{List}
-use Prim.Native.Nat.{◌+◌, ◌*◌, ◌-◌, ◌/◌, ◌%◌}
+use Prim.Native.Nat.{◌+◌, ◌*◌, ◌/◌, ◌%◌}
 use native.Mathlib.Omega.{arith}
 use lib.IntN.{ℤ, pos}
 use lib.ListN.{get_or}
@@ -20,7 +20,7 @@ loop-y-init c =
 pub store_cell-requires : goal.store_cell-requires
 store_cell-requires c =
     let p = c.requires in
-record { inside = (((p.0.0, c.loop-y.invariant.2 ∙ p.0.1), ((omega arith, omega arith, p.1.0.3, p.1.0.4), (p.1.0.0, p.1.0.1, rw (kept c.store_cell-arg-1.given) (p.1.1 (c.args.x % 4 * 4 + c.loop-y.y % 4) (omega arith)))))).0; top_le_y = (((p.0.0, c.loop-y.invariant.2 ∙ p.0.1), ((omega arith, omega arith, p.1.0.3, p.1.0.4), (p.1.0.0, p.1.0.1, rw (kept c.store_cell-arg-1.given) (p.1.1 (c.args.x % 4 * 4 + c.loop-y.y % 4) (omega arith)))))).1; levels_bound = (((p.0.0, c.loop-y.invariant.2 ∙ p.0.1), ((omega arith, omega arith, p.1.0.3, p.1.0.4), (p.1.0.0, p.1.0.1, rw (kept c.store_cell-arg-1.given) (p.1.1 (c.args.x % 4 * 4 + c.loop-y.y % 4) (omega arith)))))).2 }
+    record { inside = (p.inside.0, c.loop-y.invariant.2 ∙ p.inside.1); top_le_y = (omega arith, omega arith, p.levels_bound.3, p.levels_bound.4); levels_bound = (p.levels_bound.0, p.levels_bound.1, rw (kept c.store_cell-arg-1.given) (p.by_index (c.args.x % 4 * 4 + c.loop-y.y % 4) (omega arith))) }
 
 pub loop-y-preserved : goal.loop-y-preserved
 loop-y-preserved c =
@@ -30,7 +30,7 @@ loop-y-preserved c =
     let row : c.loop-y.y / 4 ≡ a.i = omega arith in (
       omega arith,
       omega arith,
-      c.store_cell.auto.1.1.1.1.1.1.0 ∙ c.loop-y.invariant.2,
+      c.store_cell.auto.samples ∙ c.loop-y.invariant.2,
       λ A e.
           let p = c.loop-y.invariant.3 A e in
           let t = c.store_cell.ensures (rounded a.levels A) (ap f (kept {x = get_or a.values.now k (pos 0)} c.store_cell-arg-1.given) ∙ ap (λ (z : List ℤ). f (get_or z k (pos 0))) e ∙ ap f (cell_at_law A a.i (a.x / 4) c.loop-y.y a.x row refl)) in

@@ -1,7 +1,7 @@
 -- `windows::store_four` meets its contract. Assumes nothing.
 use mathlib.Core.Path.{◌≡◌, refl, ap, ◌∙◌, subst}
 use mathlib.Core.List.{List}
-use Prim.Native.Nat.{ℕ, ◌+◌, ◌*◌, ◌-◌, ◌/◌, ◌%◌}
+use Prim.Native.Nat.{ℕ, ◌+◌, ◌*◌, ◌/◌, ◌%◌}
 use native.Mathlib.Omega.{arith}
 use lib.IntN.{ℤ, pos}
 use lib.ListN.{get_or}
@@ -20,7 +20,7 @@ loop-r-init c = (omega arith, refl, λ A e. (kept_refl _ _ _, λ a l. absurd (om
 pub store_cell-requires : goal.store_cell-requires
 store_cell-requires c =
     let p = c.requires in
-record { inside = (((p.0.0, c.loop-r.invariant.1 ∙ p.0.1), ((omega (arith, p.1.0), omega (arith, p.1.0), p.1.0.3, p.1.0.4), (p.1.0.0, p.1.0.1, rw (kept c.store_cell-arg-1.given) (p.1.1 (c.args.x % 4 * 4 + c.loop-r.r) (omega arith)))))).0; top_le_y = (((p.0.0, c.loop-r.invariant.1 ∙ p.0.1), ((omega (arith, p.1.0), omega (arith, p.1.0), p.1.0.3, p.1.0.4), (p.1.0.0, p.1.0.1, rw (kept c.store_cell-arg-1.given) (p.1.1 (c.args.x % 4 * 4 + c.loop-r.r) (omega arith)))))).1; levels_bound = (((p.0.0, c.loop-r.invariant.1 ∙ p.0.1), ((omega (arith, p.1.0), omega (arith, p.1.0), p.1.0.3, p.1.0.4), (p.1.0.0, p.1.0.1, rw (kept c.store_cell-arg-1.given) (p.1.1 (c.args.x % 4 * 4 + c.loop-r.r) (omega arith)))))).2 }
+    record { inside = (p.inside.0, c.loop-r.invariant.1 ∙ p.inside.1); top_le_y = (omega (arith, p.levels_bound), omega (arith, p.levels_bound), p.levels_bound.3, p.levels_bound.4); levels_bound = (p.levels_bound.0, p.levels_bound.1, rw (kept c.store_cell-arg-1.given) (p.by_index (c.args.x % 4 * 4 + c.loop-r.r) (omega arith))) }
 
 pub loop-r-preserved : goal.loop-r-preserved
 loop-r-preserved c =
@@ -30,7 +30,7 @@ loop-r-preserved c =
     let row : (a.i * 4 + r) / 4 ≡ a.i = omega arith in
     let same : a.x % 4 * 4 + r ≡ a.x % 4 * 4 + (a.i * 4 + r) % 4 = omega arith in (
       omega arith,
-      c.store_cell.auto.1.1.1.1.1.1.0 ∙ c.loop-r.invariant.1,
+      c.store_cell.auto.samples ∙ c.loop-r.invariant.1,
       λ A e.
           let p = c.loop-r.invariant.2 A e in
           let t = c.store_cell.ensures (rounded a.levels A)

@@ -1,6 +1,6 @@
 -- `windows::store_part` meets its contract. Assumes nothing.
 use mathlib.Core.Path.{◌≡◌, refl, ap, ◌∙◌}
-use Prim.Native.Nat.{◌-◌, ◌/◌}
+use Prim.Native.Nat.{◌/◌}
 use native.Mathlib.Omega.{arith}
 use Rattle.pyramid.specs.Behind.{block_list}
 use Rattle.windows.specs.Shown.{rounded}
@@ -15,7 +15,7 @@ loop-x-init c =
 pub store_column-requires : goal.store_column-requires
 store_column-requires c =
     let p = c.requires in
-record { inside = (((p.0.0, omega (arith, p.0.1)), ((p.1.0.0, p.1.0.1, p.1.0.2, omega arith, omega arith), p.1.1))).0; levels_bound = (((p.0.0, omega (arith, p.0.1)), ((p.1.0.0, p.1.0.1, p.1.0.2, omega arith, omega arith), p.1.1))).1; by_index = (((p.0.0, omega (arith, p.0.1)), ((p.1.0.0, p.1.0.1, p.1.0.2, omega arith, omega arith), p.1.1))).2 }
+    record { inside = (p.inside.0, omega (arith, p.inside.1)); levels_bound = (p.levels_bound.0, p.levels_bound.1, p.levels_bound.2, omega arith, omega arith); by_index = p.by_index }
 
 pub loop-x-preserved : goal.loop-x-preserved
 loop-x-preserved c =
@@ -23,7 +23,7 @@ loop-x-preserved c =
     let col : a.j ≡ c.loop-x.x / 4 = omega arith in (
       omega arith,
       omega arith,
-      c.store_column.auto.1.1.1.1.1.1.0 ∙ c.loop-x.invariant.2,
+      c.store_column.auto.samples ∙ c.loop-x.invariant.2,
       λ A e.
           let p = c.loop-x.invariant.3 A e in
           let t = c.store_column.ensures A (e ∙ ap (block_list A a.i) col) in

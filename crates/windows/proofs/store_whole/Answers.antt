@@ -1,6 +1,6 @@
 -- `windows::store_whole` meets its contract. Assumes nothing.
 use mathlib.Core.Path.{◌≡◌, refl, ap, ◌∙◌, subst}
-use Prim.Native.Nat.{◌+◌, ◌*◌, ◌-◌, ◌/◌, ◌%◌}
+use Prim.Native.Nat.{◌+◌, ◌*◌, ◌/◌, ◌%◌}
 use native.Mathlib.Omega.{arith}
 use Rattle.pyramid.specs.Behind.{block_list}
 use Rattle.windows.specs.Shown.{rounded, Shown}
@@ -15,15 +15,15 @@ pub store_four-requires : goal.store_four-requires
 store_four-requires c =
     let a = c.args in
     let p = c.requires in
-    let h = holding_is a.v a.i a.j p.0.2 in
-record { inside = (((p.0.0, c.loop-c.invariant.1 ∙ p.0.1), ((p.1.0.0, p.1.0.1, p.1.0.2, omega (arith, h), omega (arith, h), h.0, h.1), p.1.1))).0; levels_bound = (((p.0.0, c.loop-c.invariant.1 ∙ p.0.1), ((p.1.0.0, p.1.0.1, p.1.0.2, omega (arith, h), omega (arith, h), h.0, h.1), p.1.1))).1; by_index = (((p.0.0, c.loop-c.invariant.1 ∙ p.0.1), ((p.1.0.0, p.1.0.1, p.1.0.2, omega (arith, h), omega (arith, h), h.0, h.1), p.1.1))).2 }
+    let h = holding_is a.v a.i a.j p.inside.2 in
+    record { inside = (p.inside.0, c.loop-c.invariant.1 ∙ p.inside.1); levels_bound = (p.levels_bound.0, p.levels_bound.1, p.levels_bound.2, omega (arith, h), omega (arith, h), h.0, h.1); by_index = p.by_index }
 
 pub loop-c-preserved : goal.loop-c-preserved
 loop-c-preserved c =
     let a = c.args in
     let col : a.j ≡ (a.j * 4 + c.loop-c.c) / 4 = omega arith in (
       omega arith,
-      c.store_four.auto.1.1.1.1.1.1.0 ∙ c.loop-c.invariant.1,
+      c.store_four.auto.samples ∙ c.loop-c.invariant.1,
       λ A e.
           let p = c.loop-c.invariant.2 A e in
           let t = c.store_four.ensures A (e ∙ ap (block_list A a.i) col) in

@@ -15,13 +15,6 @@ pub returns-then-k-eq2 : goal.returns-then-k-eq2
 returns-then-k-eq2 c =
     to_last c.args.height c.args.width c.args.k c.requires.0 c.requires.1 (omega arith)
 
-pub overflow_mul-result : goal.overflow_mul-result
-overflow_mul-result c =
-    let l = small c.args.height c.args.width c.args.k c.requires.1 in
-    let h : c.args.k.height / 2 ≤ 256 = omega (arith, l.0) in
-    let w : c.args.k.width / 2 ≤ 256 = omega (arith, l.1) in
-    omega (arith, mul-le-mul w h)
-
 pub returns : goal.returns
 returns c =
     let k = c.args.k in

@@ -17,15 +17,6 @@ use Rattle.sheet_scan.proofs.Scans.{some_stop, some_left, some_skip, some_line, 
 use Rattle.sheet_scan.proofs.Fronts.{small, ended, Reached, reached, line_of, value_of, others_of}
 use Rattle.sheet_scan.proofs.scan.look_along.Goals as goal
 
-pub first-k-requires : goal.first-k-requires
-first-k-requires c = (c.requires.0, c.requires.1)
-
-pub loop-f-init : goal.loop-f-init
-loop-f-init c =
-    let rs = lines_at five c.args.s.now c.args.at in
-    let e = c.first-k.ensures.2 in
-    (c.first-k.ensures.0, c.first-k.ensures.1, c.requires.2, refl, ap (λ ps. is_some (values_of ps rs)) e, ap (λ ps. fit_along c.args.levels ps rs) e)
-
 pub returns-in_default : goal.returns-in_default
 returns-in_default c =
     let a = c.args in
@@ -39,23 +30,12 @@ returns-in_default c =
       fit_stop a.levels l.fitting (places_left l.k) rs stop ∙ l.invariant.5,
     )
 
-pub seek-k-requires : goal.seek-k-requires
-seek-k-requires c = let l = c.loop-f in (l.invariant.1, l.invariant.0)
-
-pub pass_fives-past-requires : goal.pass_fives-past-requires
-pass_fives-past-requires c =
-    let read : RowRead five c.args.s.now c.loop-f.p c.in-Of.f.next = five_at_law c.args.s.now c.loop-f.p c.in-Of.f (sym c.read_five.ensures ∙ c.in-Of.is) in
-    read.within
-
 pub returns-then-k-eq0 : goal.returns-then-k-eq0
 returns-then-k-eq0 c =
     let line : FiveLine c.args.s.now c.loop-f.p c.in-Of.f = five_line c.args.s.now c.loop-f.p c.in-Of.f (sym c.read_five.ensures ∙ c.in-Of.is) in
     let read : RowRead five c.args.s.now c.loop-f.p c.in-Of.f.next = five_at_law c.args.s.now c.loop-f.p c.in-Of.f (sym c.read_five.ensures ∙ c.in-Of.is) in
-    let went : (let a = c.args in fives_at a.s.now c.in-Of.f.next ≡ fives_at a.s.now a.at) = let a = c.args in
-    let l = c.loop-f in
-    let r = read in
-    sym (past_next five a.s.now l.p c.in-Of.f.next r.cells (omega arith) r.read) ∙ l.invariant.3 in
-    let s = c.before.before.before in
+    let went : fives_at c.args.s.now c.in-Of.f.next ≡ fives_at c.args.s.now c.args.at =
+    sym (past_next five c.args.s.now c.loop-f.p c.in-Of.f.next read.cells (omega arith) read.read) ∙ c.loop-f.invariant.3 in
     let a = c.args in
     let l = c.loop-f in
     let f = c.in-Of.f in
@@ -79,13 +59,6 @@ fits_range-fits-requires c =
     let e = ap (λ w. w.level) c.walk_to-here.ensures in
     (omega (arith, q.few), omega (arith, e, i.level), omega (arith, e, i.levels))
 
-pub past_line-k-requires : goal.past_line-k-requires
-past_line-k-requires c =
-    let a = c.args in
-    let q = c.seek-k.ensures in
-    let m = small a.height a.width c.seek-k.result q.skipped.standing in
-    (m.0, m.1, q.found (omega arith))
-
 pub loop-f-smaller : goal.loop-f-smaller
 loop-f-smaller c =
     let read : RowRead five c.args.s.now c.loop-f.p c.in-Of.f.next = five_at_law c.args.s.now c.loop-f.p c.in-Of.f (sym c.read_five.ensures ∙ c.in-Of.is) in
@@ -95,20 +68,15 @@ pub loop-f-preserved : goal.loop-f-preserved
 loop-f-preserved c =
     let line : FiveLine c.args.s.now c.loop-f.p c.in-Of.f = five_line c.args.s.now c.loop-f.p c.in-Of.f (sym c.read_five.ensures ∙ c.in-Of.is) in
     let read : RowRead five c.args.s.now c.loop-f.p c.in-Of.f.next = five_at_law c.args.s.now c.loop-f.p c.in-Of.f (sym c.read_five.ensures ∙ c.in-Of.is) in
-    let went : (let a = c.args in fives_at a.s.now c.in-Of.f.next ≡ fives_at a.s.now a.at) = let a = c.args in
-    let l = c.loop-f in
-    let r = read in
-    sym (past_next five a.s.now l.p c.in-Of.f.next r.cells (omega arith) r.read) ∙ l.invariant.3 in
-    let place : 0 < c.seek-k.result.left → let a = c.args in Reached a.height a.width c.in-Of.f c.loop-f.k c.seek-k.result = λ p. let a = c.args in reached a.height a.width c.in-Of.f c.loop-f.k c.seek-k.result c.seek-k.ensures p in
-    let in_plane : 0 < c.seek-k.result.left = omega (arith, c.if-k-eq0.false) in
-    let s = c.before.before.before.before.before.before.before.before.before in
+    let went : fives_at c.args.s.now c.in-Of.f.next ≡ fives_at c.args.s.now c.args.at =
+    sym (past_next five c.args.s.now c.loop-f.p c.in-Of.f.next read.cells (omega arith) read.read) ∙ c.loop-f.invariant.3 in
     let a = c.args in
     let l = c.loop-f in
     let f = c.in-Of.f in
     let x = line in
     let k = c.seek-k.result in
-    let g = in_plane in
-    let w = place g in
+    let g : 0 < k.left = omega (arith, c.if-k-eq0.false) in
+    let w : Reached a.height a.width f l.k k = reached a.height a.width f l.k k c.seek-k.ensures g in
     let p = entry_of (walk_to k f) in
     let t = places_left c.past_line-k.result in
     let rs = lines_at five a.s.now l.p in

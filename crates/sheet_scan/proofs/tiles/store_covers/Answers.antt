@@ -22,12 +22,6 @@ use Rattle.sheet_scan.proofs.tiles.store_covers.Goals as goal
 split : (l : List ℕ) (i x : ℕ) (t : List ℕ) → i < length l → x ∷ t ≡ drop i l → (x ≡ get_or l i 0) × (t ≡ drop (i + 1) l)
 split l i x t h e = let g : x ∷ t ≡ get_or l i 0 ∷ drop (i + 1) l = e ∙ drop-cons l i 0 h ∙ ap (λ (n : ℕ). get_or l i 0 ∷ drop n l) (sym (add-one i)) in (cc, cc)
 
-pub loop-i-init : goal.loop-i-init
-loop-i-init c = (omega (arith, c.requires.0), refl, refl, refl)
-
-pub shape_of-coverings-in_default : goal.shape_of-coverings-in_default
-shape_of-coverings-in_default c = c.loop-i.invariant.3
-
 pub returns-in_default : goal.returns-in_default
 returns-in_default c =
     let a = c.args in
@@ -37,60 +31,30 @@ returns-in_default c =
 
 pub overflow_cast-coverings : goal.overflow_cast-coverings
 overflow_cast-coverings c =
-    let line : FourLine c.args.s.now c.loop-i.p c.in-Of.f = four_line c.args.s.now c.loop-i.p c.in-Of.f (sym c.read_four.ensures ∙ c.in-Of.is) in
-    let due : (let a = c.args in let l) = c.loop-i in let f = c.in-Of.f in let new = covers_along (lines_at four a.s.now a.at) in
-    (f.fourth ≡ get_or new l.i 0) × (covers_along (lines_at four a.s.now f.next) ≡ drop (l.i + 1) new) = let a = c.args in
-    let l = c.loop-i in
-    let x = line in
-    let rs = lines_at four a.s.now a.at in
-    let m = length-map rs (λ r. cell_at r 3) in
-    let d = split (covers_along rs) l.i (cell_at x.cells 3) _ (omega (arith, c.requires.0, c.loop-i-test.true, l.invariant.3)) (sym (ap covers_along x.lines) ∙ l.invariant.1) in
-    (x.fourth ∙ d.0, d.1) in
-    let k = c.before in
     let a = c.args in
     let l = c.loop-i in
+    let f = c.in-Of.f in
+    let x : FourLine a.s.now l.p f = four_line a.s.now l.p f (sym c.read_four.ensures ∙ c.in-Of.is) in
     let rs = lines_at four a.s.now a.at in
     let m = length-map rs (λ r. cell_at r 3) in
-    let t = every_at is_number (covers_along rs) 0 (subst T (sym c.requires.1) tt) l.i (omega (arith, c.requires.0, c.loop-i-test.true, l.invariant.3)) in
+    let d = split (covers_along rs) l.i (cell_at x.cells 3) _ (omega (arith, c.requires.at_len, c.loop-i-test.true, l.invariant.3)) (sym (ap covers_along x.lines) ∙ l.invariant.1) in
+    let t = every_at is_number (covers_along rs) 0 (subst T (sym c.requires.at_value) tt) l.i (omega (arith, c.requires.at_len, c.loop-i-test.true, l.invariant.3)) in
     let n = get_or (covers_along rs) l.i 0 in
     let b = leb-true n 117 (both_true (leb 1 n) (leb n 117) (is_true (is_number n) t)).1 in
-    omega (arith, b, due.0)
-
-pub bounds-coverings-i : goal.bounds-coverings-i
-bounds-coverings-i c = c.loop-i-test.true
+    omega (arith, b, x.fourth, d.0)
 
 pub loop-i-preserved : goal.loop-i-preserved
 loop-i-preserved c =
-    let line : FourLine c.args.s.now c.loop-i.p c.in-Of.f = four_line c.args.s.now c.loop-i.p c.in-Of.f (sym c.read_four.ensures ∙ c.in-Of.is) in
-    let due : (let a = c.args in let l) = c.loop-i in let f = c.in-Of.f in let new = covers_along (lines_at four a.s.now a.at) in
-    (f.fourth ≡ get_or new l.i 0) × (covers_along (lines_at four a.s.now f.next) ≡ drop (l.i + 1) new) = let a = c.args in
-    let l = c.loop-i in
-    let x = line in
-    let rs = lines_at four a.s.now a.at in
-    let m = length-map rs (λ r. cell_at r 3) in
-    let d = split (covers_along rs) l.i (cell_at x.cells 3) _ (omega (arith, c.requires.0, c.loop-i-test.true, l.invariant.3)) (sym (ap covers_along x.lines) ∙ l.invariant.1) in
-    (x.fourth ∙ d.0, d.1) in
-    let k = c.before in
     let a = c.args in
     let l = c.loop-i in
-    let x = line in
+    let f = c.in-Of.f in
+    let x : FourLine a.s.now l.p f = four_line a.s.now l.p f (sym c.read_four.ensures ∙ c.in-Of.is) in
     let rs = lines_at four a.s.now a.at in
     let m = length-map rs (λ r. cell_at r 3) in
-    let f = c.in-Of.f in
+    let d = split (covers_along rs) l.i (cell_at x.cells 3) _ (omega (arith, c.requires.at_len, c.loop-i-test.true, l.invariant.3)) (sym (ap covers_along x.lines) ∙ l.invariant.1) in
     let y = ap length x.lines in (
       omega (arith, y, l.invariant.0),
-      due.1,
-      half_store (covers_along rs) a.coverings.now l.i 0 l.invariant.2 due.0 (omega (arith, m, c.requires.0)) (omega (arith, c.loop-i-test.true, l.invariant.3)),
+      d.1,
+      half_store (covers_along rs) a.coverings.now l.i 0 l.invariant.2 (x.fourth ∙ d.0) (omega (arith, m, c.requires.at_len)) (omega (arith, c.loop-i-test.true, l.invariant.3)),
       length-set l.coverings l.i f.fourth ∙ l.invariant.3,
     )
-
-pub shape_of-coverings : goal.shape_of-coverings
-shape_of-coverings c = c.loop-i.invariant.3
-
-pub returns : goal.returns
-returns c =
-    let a = c.args in
-    let l = c.loop-i in
-    let rs = lines_at four a.s.now a.at in
-    let m = length-map rs (λ r. cell_at r 3) in
-    l.invariant.2 ∙ half_end (covers_along rs) a.coverings.now l.i (omega (arith, m, c.requires.0)) (omega (arith, c.loop-i-test.false, l.invariant.3))

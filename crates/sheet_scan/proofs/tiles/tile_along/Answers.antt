@@ -15,23 +15,6 @@ use Rattle.sheet_scan.proofs.Scans.{covers_again, covers_short, covers_done, cov
 use Rattle.sheet_scan.proofs.Whole.{clash}
 use Rattle.sheet_scan.proofs.tiles.tile_along.Goals as goal
 
--- the line k was read, and where it ends
-line : (k : goal.In-Of) → FourLine k.args.s.now k.loop-k.p k.in-Of.f
-line k = four_line k.args.s.now k.loop-k.p k.in-Of.f (sym k.read_four.ensures ∙ k.in-Of.is)
-
-read : (k : goal.In-Of) → RowRead four k.args.s.now k.loop-k.p k.in-Of.f.next
-read k = four_at_law k.args.s.now k.loop-k.p k.in-Of.f (sym k.read_four.ensures ∙ k.in-Of.is)
-
-matched : (c : goal.After-is_block-here) → c.is_Block.result ≡ is_block (block_of c.loop-k.k) (line c.before).cells
-matched c = let l = line c.before in let b = block_of c.loop-k.k in c.is_Block.ensures ∙ (λ i. eqb (l.first i) b.level && (eqb (l.second i) b.row && eqb (l.third i) b.col))
-
-pub first_block-k-requires : goal.first_block-k-requires
-first_block-k-requires c = (c.requires.0, c.requires.1)
-
-pub loop-k-init : goal.loop-k-init
-loop-k-init c =
-    (c.first_block-k.ensures.inside, c.requires.2, refl, ap (λ bs. is_some (covers_of bs (lines_at four c.args.s.now c.args.at))) c.first_block-k.ensures.result_value, refl)
-
 pub returns-in_default : goal.returns-in_default
 returns-in_default c =
     let s = c.args.s.now in
@@ -43,27 +26,22 @@ returns-in_default c =
       λ e. absurd (clash e),
     )
 
-pub step-k-requires : goal.step-k-requires
-step-k-requires c = (c.loop-k-test.true, c.loop-k.invariant.0)
-
-pub loop-k-smaller : goal.loop-k-smaller
-loop-k-smaller c = let e = ap length c.step-k.ensures.blocks in omega arith
-
 pub loop-k-preserved : goal.loop-k-preserved
 loop-k-preserved c =
-    let k = c.before.before.before.before.before in
-    let b = c.before.before.before.before in
     let s = c.args.s.now in
     let l = c.loop-k in
     let f = c.in-Of.f in
     let rs = lines_at four s l.p in
     let rs' = lines_at four s f.next in
-    let x = line c.before.before.before.before.before in
-    let r = read c.before.before.before.before.before in (
+    let b = block_of l.k in
+    -- the line was read, and where it ends
+    let x : FourLine s l.p f = four_line s l.p f (sym c.read_four.ensures ∙ c.in-Of.is) in
+    let r : RowRead four s l.p f.next = four_at_law s l.p f (sym c.read_four.ensures ∙ c.in-Of.is) in
+    let matched : c.is_block-here.result ≡ is_block b x.cells = c.is_block-here.ensures ∙ (λ i. eqb (x.first i) b.level && (eqb (x.second i) b.row && eqb (x.third i) b.col)) in (
       c.step-k.ensures.inside,
       r.within,
       sym (past_next four s l.p f.next r.cells (omega arith) r.read) ∙ l.invariant.2,
-      covers_again (block_of l.k) (blocks_left c.step-k.result) (blocks_left l.k) x.cells rs' rs l.ordered c.is_Block.result c.both-ordered.result c.step-k.ensures.blocks x.lines c.both-ordered.ensures (matched c.before.before.before.before) ∙ l.invariant.3,
+      covers_again b (blocks_left c.step-k.result) (blocks_left l.k) x.cells rs' rs l.ordered c.is_block-here.result c.both-ordered.result c.step-k.ensures.blocks x.lines c.both-ordered.ensures matched ∙ l.invariant.3,
       numbers_again x.cells rs' rs f.fourth l.numbered c.is_number-good.result c.both-numbered.result x.lines x.fourth c.both-numbered.ensures c.is_number-good.ensures ∙ l.invariant.4,
     )
 
@@ -79,11 +57,6 @@ returns-in_default-read_four c =
       covers_done l.ordered (blocks_left l.k) rs e z ∙ l.invariant.3,
       λ o. numbers_done l.numbered rs z ∙ l.invariant.4,
     )
-
-pub pass_fours-past-requires : goal.pass_fours-past-requires
-pass_fours-past-requires c =
-    let l = c.loop-k in
-    (four_at_law c.args.s.now l.p c.in-Of-read_four.g (sym c.read_four-2.ensures ∙ c.in-Of-read_four.is)).within
 
 pub returns : goal.returns
 returns c =

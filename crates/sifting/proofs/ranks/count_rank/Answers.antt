@@ -6,6 +6,7 @@ use native.Mathlib.Omega.{arith}
 use lib.ListN.{length}
 use Rattle.sifting.proofs.Runs.{below_base, other-run, stored, unchanged}
 use Rattle.sifting.proofs.ranks.count_rank.Goals as goal
+use Rattle.sifting.proofs.ranks.count_rank.Goals.{Else-b-gt511}
 
 -- the run is one of the 512
 inside : (c : goal.Else-b-gt511) → let a = c.args in (a.rank - a.base) / 2 ^ a.shift < 512
@@ -24,22 +25,22 @@ returns-then-b-gt511 c =
     unchanged _ a.base (2 ^ a.shift) a.rank (λ j k. other-run a.base (2 ^ a.shift) a.rank (one-le-pow a.shift 2 (omega arith)) c.if-rank-base.false j (omega arith))
 
 pub offset_bounds-counts-i : goal.offset_bounds-counts-i
-offset_bounds-counts-i c = omega (arith, inside c)
+offset_bounds-counts-i c = omega (arith, inside (goal.at.offset_bounds-counts-i c).Else-b-gt511)
 
 pub bounds-counts-i : goal.bounds-counts-i
-bounds-counts-i c = inside c.before
+bounds-counts-i c = inside (goal.at.bounds-counts-i c).Else-b-gt511
 
 pub overflow_add-counts : goal.overflow_add-counts
-overflow_add-counts c = omega (arith, c.requires.0.small ((c.args.rank - c.args.base) / 2 ^ c.args.shift) (inside c.before.before))
+overflow_add-counts c = omega (arith, c.requires.small.small ((c.args.rank - c.args.base) / 2 ^ c.args.shift) (inside (goal.at.overflow_add-counts c).Else-b-gt511))
 
 pub offset_bounds-counts-i-2 : goal.offset_bounds-counts-i-2
-offset_bounds-counts-i-2 c = omega (arith, inside c.before.before)
+offset_bounds-counts-i-2 c = omega (arith, inside (goal.at.offset_bounds-counts-i-2 c).Else-b-gt511)
 
 pub bounds-counts-i-2 : goal.bounds-counts-i-2
-bounds-counts-i-2 c = inside c.before.before
+bounds-counts-i-2 c = inside (goal.at.bounds-counts-i-2 c).Else-b-gt511
 
 pub returns : goal.returns
 returns c =
     let a = c.args in
-    let n : length a.counts.now ≡ 512 = c.requires.0.long in
-    stored a.base (2 ^ a.shift) a.rank (one-le-pow a.shift 2 (omega arith)) c.if-rank-base.false a.counts.now (inside c.before.before) (omega (arith, inside c.before.before))
+    let n : length a.counts.now ≡ 512 = c.requires.small.long in
+    stored a.base (2 ^ a.shift) a.rank (one-le-pow a.shift 2 (omega arith)) c.if-rank-base.false a.counts.now (inside (goal.at.returns c).Else-b-gt511) (omega (arith, inside (goal.at.returns c).Else-b-gt511))

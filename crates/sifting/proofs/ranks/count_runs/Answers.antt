@@ -11,28 +11,28 @@ use Rattle.sifting.proofs.Turns.{at_start, here_now, run_step, run_small, run_al
 use Rattle.sifting.proofs.ranks.count_runs.Goals as goal
 
 pub first_tetrolet-k-requires : goal.first_tetrolet-k-requires
-first_tetrolet-k-requires c = (c.requires.0.sided, c.requires.0.deep)
+first_tetrolet-k-requires c = (c.requires.ready.sided, c.requires.ready.deep)
 
 pub loop-k-init : goal.loop-k-init
 loop-k-init c =
     let a = c.args in
-    record { number = 0; place = at_start a.levels a.height a.width c.first_tetrolet-k.result c.first_tetrolet-k.ensures.inside c.first_tetrolet-k.ensures.result_value; long = c.requires.1.1.long; runs = c.requires.1.1.zeros }
+    record { number = 0; place = at_start a.levels a.height a.width c.first_tetrolet-k.result c.first_tetrolet-k.ensures.inside c.first_tetrolet-k.ensures.result_value; long = c.requires.shift_bound.1.long; runs = c.requires.shift_bound.1.zeros }
 
 pub index_of-i-requires : goal.index_of-i-requires
 index_of-i-requires c = c.loop-k.invariant.place.inside
 
 pub bounds-plane-i : goal.bounds-plane-i
-bounds-plane-i c = omega (arith, c.index_of-i.ensures.1, c.requires.0.long)
+bounds-plane-i c = omega (arith, c.index_of-i.ensures.1, c.requires.ready.long)
 
 pub rank_of-r-requires : goal.rank_of-r-requires
 rank_of-r-requires c =
     let l = c.loop-k in
-    let h = here_now c.args.levels c.args.height c.args.width c.args.plane.now c.requires.0 l.k l.invariant.number l.invariant.place c.loop-k-test.true in
+    let h = here_now c.args.levels c.args.height c.args.width c.args.plane.now c.requires.ready l.k l.invariant.number l.invariant.place c.loop-k-test.true in
     let e = kept c.v-1.given ∙ ap (λ (j : ℕ). get_or c.args.plane.now j (pos 0)) (c.index_of-i.ensures.0 ∙ h.index) in
-    ((h.most, h.low, h.high), subst⁻¹ (λ (z : ℤ). nat_abs z ≤ 2 * 4 ^ (l.k.level - 1) * 4095) e h.bound)
+    record { levels_bound = (h.most, h.low, h.high); v_bound = subst⁻¹ (λ (z : ℤ). nat_abs z ≤ 2 * 4 ^ (l.k.level - 1) * 4095) e h.bound }
 
 pub count_rank-requires : goal.count_rank-requires
-count_rank-requires c = let l = c.loop-k in record { small = run_small c.args.levels c.args.height c.args.width c.args.base (2 ^ c.args.shift) c.args.plane.now c.requires.0 l.counts l.k l.invariant; shift_bound = c.requires.1.0 }
+count_rank-requires c = let l = c.loop-k in record { small = run_small c.args.levels c.args.height c.args.width c.args.base (2 ^ c.args.shift) c.args.plane.now c.requires.ready l.counts l.k l.invariant; shift_bound = c.requires.shift_bound.0 }
 
 pub step-k-requires : goal.step-k-requires
 step-k-requires c = (c.loop-k-test.true, c.loop-k.invariant.place.inside)
@@ -42,12 +42,12 @@ loop-k-smaller c = let e = ap length c.step-k.ensures.entries in omega arith
 
 pub loop-k-preserved : goal.loop-k-preserved
 loop-k-preserved c =
-    let ranked : (let s = c.before.before.before.before.before.before.before in let l) = c.loop-k in
-    c.rank_of-r.result ≡ get_or (ranks c.args.levels c.args.height c.args.width (image_of c.args.height c.args.plane.now)) l.invariant.number 0 = let l = c.loop-k in
-    let h = here_now c.args.levels c.args.height c.args.width c.args.plane.now c.requires.0 l.k l.invariant.number l.invariant.place c.loop-k-test.true in
+    let l = c.loop-k in
+    let h = here_now c.args.levels c.args.height c.args.width c.args.plane.now c.requires.ready l.k l.invariant.number l.invariant.place c.loop-k-test.true in
     let e = kept c.v-1.given ∙ ap (λ (j : ℕ). get_or c.args.plane.now j (pos 0)) (c.index_of-i.ensures.0 ∙ h.index) in
-    c.rank_of-r.ensures.0 ∙ ap (λ (z : ℤ). nat_abs z * 2 ^ (c.args.levels - l.k.level)) e ∙ sym h.rank in
-    let l = c.loop-k in run_step c.args.levels c.args.height c.args.width c.args.base (2 ^ c.args.shift) c.args.plane.now c.requires.0 l.counts c.count_rank.new.counts l.k c.step-k.result l.invariant c.step-k.ensures c.rank_of-r.result ranked c.count_rank.ensures
+    let ranked : c.rank_of-r.result ≡ get_or (ranks c.args.levels c.args.height c.args.width (image_of c.args.height c.args.plane.now)) l.invariant.number 0
+    = c.rank_of-r.ensures.0 ∙ ap (λ (z : ℤ). nat_abs z * 2 ^ (c.args.levels - l.k.level)) e ∙ sym h.rank in
+    run_step c.args.levels c.args.height c.args.width c.args.base (2 ^ c.args.shift) c.args.plane.now c.requires.ready l.counts c.count_rank.new.counts l.k c.step-k.result l.invariant c.step-k.ensures c.rank_of-r.result ranked c.count_rank.ensures
 
 pub returns : goal.returns
-returns c = let l = c.loop-k in run_all c.args.levels c.args.height c.args.width c.args.base (2 ^ c.args.shift) c.args.plane.now c.requires.0 l.counts l.k l.invariant (omega (arith, c.loop-k-test.false))
+returns c = let l = c.loop-k in run_all c.args.levels c.args.height c.args.width c.args.base (2 ^ c.args.shift) c.args.plane.now c.requires.ready l.counts l.k l.invariant (omega (arith, c.loop-k-test.false))

@@ -1,5 +1,5 @@
 -- `sifting::ranks::count_runs` meets its contract: what is counted up to the place of the walk. Assumes nothing.
-use Prim.Native.Nat.{◌-◌, ◌^◌}
+use Prim.Native.Nat.{◌^◌}
 use lib.ListN.{length}
 use Rattle.places.specs.Walk.{entries_left}
 use Rattle.sifting.proofs.Turns.{Running}

@@ -35,4 +35,4 @@ pub returns-in-7 : goal.returns-in-7
 returns-in-7 c = let e : c.args.r ≡ 7 = omega arith in sym (ap (λ (r : ℕ). 2 ^ r) e)
 
 pub returns-in_default : goal.returns-in_default
-returns-in_default c = let r = c.in_default.rest in sym (ap (λ (r : ℕ). 2 ^ r) (eight c.args.r c.requires r.0.0.0.1 r.0.0.1 r.0.1 r.1 (four c.args.r r.0.0.0.0.0.0.0.1 r.0.0.0.0.0.0.1 r.0.0.0.0.0.1 r.0.0.0.0.1)))
+returns-in_default c = let e : c.args.r ≡ 8 = omega arith in sym (ap (λ (r : ℕ). 2 ^ r) e)

@@ -13,15 +13,15 @@ use Rattle.sifting.proofs.Turns.{few_of}
 use Rattle.sifting.proofs.ranks.narrowed.Goals as goal
 
 pub count_runs-requires : goal.count_runs-requires
-count_runs-requires c = record { ready = c.requires.0; shift_bound = (c.requires.1.0.0, zeros_512) }
+count_runs-requires c = record { ready = c.requires.ready; shift_bound = (c.requires.shift_bound.0, zeros_512) }
 
 pub loop-j-init : goal.loop-j-init
 loop-j-init c =
-    let i = c.requires.1.1 in (
+    let i = c.requires.inside in (
       omega arith,
       i.over ∙ ap (from (ranks c.args.levels c.args.height c.args.width (image_of c.args.height c.args.plane.now))) (last_run c.args.at.base c.args.step),
       i.few,
-      run_width c.requires.1.0.1 c.count_runs.ensures,
+      run_width c.requires.shift_bound.1 c.count_runs.ensures,
     )
 
 pub offset_bounds-counts-j : goal.offset_bounds-counts-j
@@ -33,24 +33,24 @@ bounds-counts-j c = omega (arith, c.loop-j.invariant.0)
 pub overflow_cast-more : goal.overflow_cast-more
 overflow_cast-more c =
     let l = c.loop-j in
-    omega (arith, l.invariant.3.counted l.j (omega (arith, l.invariant.0)), few_of c.args.levels c.args.height c.args.width c.args.plane.now c.requires.0 (λ m. in_run c.args.at.base c.args.step l.j (get_or (ranks c.args.levels c.args.height c.args.width (image_of c.args.height c.args.plane.now)) m 0)))
+    omega (arith, l.invariant.3.counted l.j (omega (arith, l.invariant.0)), few_of c.args.levels c.args.height c.args.width c.args.plane.now c.requires.ready (λ m. in_run c.args.at.base c.args.step l.j (get_or (ranks c.args.levels c.args.height c.args.width (image_of c.args.height c.args.plane.now)) m 0)))
 
 pub overflow_add-more : goal.overflow_add-more
 overflow_add-more c =
     let l = c.loop-j in
-    omega (arith, l.invariant.3.counted l.j (omega (arith, l.invariant.0)), few_of c.args.levels c.args.height c.args.width c.args.plane.now c.requires.0 (λ m. in_run c.args.at.base c.args.step l.j (get_or (ranks c.args.levels c.args.height c.args.width (image_of c.args.height c.args.plane.now)) m 0)), l.invariant.1, few_of c.args.levels c.args.height c.args.width c.args.plane.now c.requires.0 (λ m. leb (c.args.at.base + l.j * c.args.step + c.args.step) (get_or (ranks c.args.levels c.args.height c.args.width (image_of c.args.height c.args.plane.now)) m 0)))
+    omega (arith, l.invariant.3.counted l.j (omega (arith, l.invariant.0)), few_of c.args.levels c.args.height c.args.width c.args.plane.now c.requires.ready (λ m. in_run c.args.at.base c.args.step l.j (get_or (ranks c.args.levels c.args.height c.args.width (image_of c.args.height c.args.plane.now)) m 0)), l.invariant.1, few_of c.args.levels c.args.height c.args.width c.args.plane.now c.requires.ready (λ m. leb (c.args.at.base + l.j * c.args.step + c.args.step) (get_or (ranks c.args.levels c.args.height c.args.width (image_of c.args.height c.args.plane.now)) m 0)))
 
 pub overflow_mul-result : goal.overflow_mul-result
-overflow_mul-result c = let l = c.loop-j in omega (arith, run_inside c.args.at.base c.args.step l.j l.invariant.0, c.requires.1.0.2)
+overflow_mul-result c = let l = c.loop-j in omega (arith, run_inside c.args.at.base c.args.step l.j l.invariant.0, c.requires.shift_bound.2)
 
 pub overflow_add-result : goal.overflow_add-result
-overflow_add-result c = let l = c.loop-j in omega (arith, run_inside c.args.at.base c.args.step l.j l.invariant.0, c.requires.1.0.2)
+overflow_add-result c = let l = c.loop-j in omega (arith, run_inside c.args.at.base c.args.step l.j l.invariant.0, c.requires.shift_bound.2)
 
 pub returns-then-quota-more : goal.returns-then-quota-more
 returns-then-quota-more c =
     let l = c.loop-j in
     let m = more_is (ranks c.args.levels c.args.height c.args.width (image_of c.args.height c.args.plane.now)) c.args.at.base c.args.step l.j l.total _ l.invariant.1 (l.invariant.3.counted l.j (omega (arith, l.invariant.0))) in
-    (record { over = l.invariant.1; few = l.invariant.2; least = inr (subst (λ (x : ℕ). c.args.quota < x) m c.if-quota-more.true) }, run_inside c.args.at.base c.args.step l.j l.invariant.0)
+    record { inside_2 = record { over = l.invariant.1; few = l.invariant.2; least = inr (subst (λ (x : ℕ). c.args.quota < x) m c.if-quota-more.true) }; step_bound = run_inside c.args.at.base c.args.step l.j l.invariant.0 }
 
 pub overflow_sub-j : goal.overflow_sub-j
 overflow_sub-j c = omega arith
@@ -67,4 +67,4 @@ loop-j-preserved c =
 pub returns : goal.returns
 returns c =
     let l = c.loop-j in
-record { inside_2 = record { over = l.invariant.1 ∙ ap (from (ranks c.args.levels c.args.height c.args.width (image_of c.args.height c.args.plane.now))) (first_run c.args.at.base c.args.step l.j (omega arith)); few = l.invariant.2; least = c.requires.1.1.least }; step_bound = omega arith }
+    record { inside_2 = record { over = l.invariant.1 ∙ ap (from (ranks c.args.levels c.args.height c.args.width (image_of c.args.height c.args.plane.now))) (first_run c.args.at.base c.args.step l.j (omega arith)); few = l.invariant.2; least = c.requires.inside.least }; step_bound = omega arith }

@@ -15,7 +15,7 @@ small : (c : goal.After-doubled) → let a = c.args in nat_abs a.v * 2 ^ (a.leve
 small c =
     let a = c.args in
     let p = c.requires in
-    rank_small (nat_abs a.v) a.level a.levels p.0.1 p.0.2 p.0.0 p.1
+    rank_small (nat_abs a.v) a.level a.levels p.levels_bound.1 p.levels_bound.2 p.levels_bound.0 p.v_bound
 
 pub overflow_mul-result : goal.overflow_mul-result
 overflow_mul-result c = omega (arith, product c, small c)

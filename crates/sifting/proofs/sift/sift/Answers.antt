@@ -30,7 +30,7 @@ rank_of-r-requires c =
     let t = c.loop-k-test.true in
     let h = here_now c.args.levels c.args.height c.args.width c.args.plane.now c.requires l.k l.invariant.number l.invariant.place t in
     let e = kept c.v-1.given ∙ sift-read c.args.levels c.args.height c.args.width c.args.limit c.args.ties c.args.plane.now c.requires l.plane l.tally l.k l.invariant t c.index_of-i.result c.index_of-i.ensures.0 in
-    ((h.most, h.low, h.high), subst⁻¹ (λ (z : ℤ). nat_abs z ≤ 2 * 4 ^ (l.k.level - 1) * 4095) e h.bound)
+    record { levels_bound = (h.most, h.low, h.high); v_bound = subst⁻¹ (λ (z : ℤ). nat_abs z ≤ 2 * 4 ^ (l.k.level - 1) * 4095) e h.bound }
 
 pub entry-tally-requires : goal.entry-tally-requires
 entry-tally-requires c = let l = c.loop-k in omega (arith, sift-small c.args.levels c.args.height c.args.width c.args.limit c.args.ties c.args.plane.now c.requires l.plane l.tally l.k l.invariant)
@@ -53,7 +53,7 @@ loop-k-preserved c =
     let i = c.index_of-i in
     let v = kept c.v-1.given in
     sift-step c.args.levels c.args.height c.args.width c.args.limit c.args.ties c.args.plane.now c.requires l.plane l.tally l.k l.invariant c.step-k.result c.entry-tally.result i.result c.rank_of-r.result _ _
-    c.loop-k-test.true c.step-k.ensures i.ensures.0 v c.rank_of-r.ensures.0 c.entry-tally.ensures (kept c.stored.type-inv ∙ c.stored.ensures)
+    c.loop-k-test.true c.step-k.ensures i.ensures.0 v c.rank_of-r.ensures.0 c.entry-tally.ensures (kept c.stored.type_inv ∙ c.stored.ensures)
 
 pub shape_of-plane : goal.shape_of-plane
 shape_of-plane c = let l = c.loop-k in sift-long c.args.levels c.args.height c.args.width c.args.limit c.args.ties c.args.plane.now c.requires l.plane l.tally l.k l.invariant ∙ sym c.requires.long

@@ -1,5 +1,4 @@
 -- `sifting::sift::sift` meets its contract: what is stored up to the place of the walk. Assumes nothing.
-use Prim.Native.Nat.{◌-◌}
 use lib.ListN.{length}
 use Rattle.places.specs.Walk.{entries_left}
 use Rattle.sifting.proofs.Turns.{Sifting}
