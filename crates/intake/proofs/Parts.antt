@@ -8,7 +8,7 @@ use lib.Seq.{length-take-le, take_at, take-take}
 use Rattle.intake.specs.declared.reading.Part.{Part}
 use Rattle.intake.specs.declared.reading.Part.TheVariants as part
 use Rattle.intake.specs.declared.reading.Input.TheVariants as input
-use Rattle.intake.specs.Reading.{PartAt, PartRead, InputAt, InputRead}
+use Rattle.intake.specs.Reading.{PartAt, PartRead, InputRead}
 
 -- a list that begins with the front of another
 pub front_stays : (n : ℕ) (xs ys : List ℕ) → n ≤ length xs → take n (take n xs ++ ys) ≡ take n xs

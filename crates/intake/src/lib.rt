@@ -13,6 +13,8 @@ use std::io;
 use std::io::{Read, Write};
 
 pub mod reading;
+#[cfg(test)]
+mod tests;
 
 // What became of the input: how it was read, and the length of what is to be printed.
 #[derive(Drop)]

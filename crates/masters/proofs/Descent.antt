@@ -1,11 +1,10 @@
 -- The cells of a plane's numerators, from the four blocks below a block to the whole slice. Assumes nothing.
 use mathlib.Core.Path.{◌≡◌, refl, subst, subst⁻¹}
 use mathlib.Core.Logic.{◌↔◌}
-use mathlib.Core.Bool.{Bool, true, false, not}
+use mathlib.Core.Bool.{Bool, true, false}
 use mathlib.Core.List.{List}
 use Prim.Native.Nat.{ℕ, ◌+◌, ◌*◌, ◌-◌, ◌/◌, ◌%◌, ◌<◌, ◌≤◌}
 use native.Mathlib.Omega.{arith}
-use borrow.Author.Tests.{not-true, not-false}
 use lib.Dec.{T}
 use lib.IntN.{ℤ, pos}
 use lib.ListN.{length}
@@ -27,11 +26,11 @@ use Rattle.masters.specs.Whole.{is_whole, are_whole}
 use Rattle.masters.specs.Cells.{WholeCell, AllAlong}
 
 -- ---- a call's answer, by the branch on it
-pub failed : (t : Bool) → not t ≡ true → T t → ⊥
-failed t e x = subst T (not-true t e) x
+pub failed : (t : Bool) → t ≡ false → T t → ⊥
+failed t e x = subst T e x
 
-pub passed : (t : Bool) → not t ≡ false → T t
-passed t e = subst⁻¹ T (not-false t e) tt
+pub passed : (t : Bool) → t ≡ true → T t
+passed t e = subst⁻¹ T e tt
 
 -- what a call on a node r says, where r is a known node m
 pub told : (m : Node) (cs : List ℕ) (plane : List ℤ) {r : Node} → r ≡ m → (t : Bool)

@@ -1,8 +1,8 @@
 -- `analysis::forward_level` meets its contract: the walk over the blocks of proofs/Levelwise.antt. Assumes nothing.
 use mathlib.Core.Path.{refl, sym, ◌∙◌}
-use Prim.Native.Nat.{◌+◌, ◌-◌, ◌<◌}
+use Prim.Native.Nat.{◌+◌, ◌<◌}
 use native.Mathlib.Omega.{arith}
-use lib.ListN.{length, length-set}
+use lib.ListN.{length-set}
 use Rattle.terms.specs.Terms.{among, pick_terms}
 use Rattle.pyramid.specs.Plane.{blocks}
 use Rattle.analysis.proofs.Bandwise.{region_in, blocks_few}

@@ -7,9 +7,6 @@ use Rattle.cutter_text.specs.Forms.{samples_form}
 use Rattle.cutting.proofs.Prints.{printed, no_rows, some_rows}
 use Rattle.cutting.proofs.print_rows.Goals as goal
 
-pub put_refusal-requires : goal.put_refusal-requires
-put_refusal-requires c = (omega (arith, c.code.ensures, answer_le c.read_samples-found.result), c.requires.1.1)
-
 pub returns-in_default : goal.returns-in_default
 returns-in_default c =
     let a = c.args in

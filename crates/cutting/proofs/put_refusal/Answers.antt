@@ -12,33 +12,18 @@ use Rattle.cutting.proofs.put_refusal.Goals as goal
 short : (n : ℕ) → length (cell_text n 10) ≤ 11
 short n = omega (arith, cell_length n 10, width_le 10 n)
 
-pub put_bytes-p-requires : goal.put_bytes-p-requires
-put_bytes-p-requires c = omega (arith, c.requires.1)
-
 pub put_cell-requires : goal.put_cell-requires
 put_cell-requires c =
-    let names : (let a = c.args in Put 0 c.put_bytes-p.result (bytes "refusal\n") a.out.now c.put_bytes-p.new.out) = record { room = omega (arith, c.requires.1); next = c.put_bytes-p.ensures.value; bytes = c.put_bytes-p.ensures.out_after } in
-    let j = c.before.before.before in
-    let n = names in
-    (omega (arith, c.requires.0), omega (arith, c.requires.1, short c.args.number, n.next, put_length n))
-
-pub shape_of-out : goal.shape_of-out
-shape_of-out c =
-    let names : (let a = c.args in Put 0 c.put_bytes-p.result (bytes "refusal\n") a.out.now c.put_bytes-p.new.out) = record { room = omega (arith, c.requires.1); next = c.put_bytes-p.ensures.value; bytes = c.put_bytes-p.ensures.out_after } in
-    let last : (let j = c.before.before.before.before in let a) = c.args in
-    Put c.put_bytes-p.result c.put_cell.result (cell_text a.number 10) c.put_bytes-p.new.out c.put_cell.new.out = let j = c.before.before.before.before in
-    let n = names in
-    record { room = omega (arith, c.requires.1, short c.args.number, n.next, put_length n); next = c.put_cell.ensures.value; bytes = c.put_cell.ensures.out_after } in
-    let k = c.before.before in put_length (put_more names last)
+    let names : Put 0 c.put_bytes-p.result (bytes "refusal\n") c.args.out.now c.put_bytes-p.new.out =
+    record { room = omega (arith, c.requires.1); next = c.put_bytes-p.ensures.value; bytes = c.put_bytes-p.ensures.out_after } in
+    (omega (arith, c.requires.0), omega (arith, c.requires.1, short c.args.number, names.next, put_length names))
 
 pub returns : goal.returns
 unfolding refusal_text
 returns c =
-    let names : (let a = c.args in Put 0 c.put_bytes-p.result (bytes "refusal\n") a.out.now c.put_bytes-p.new.out) = record { room = omega (arith, c.requires.1); next = c.put_bytes-p.ensures.value; bytes = c.put_bytes-p.ensures.out_after } in
-    let last : (let j = c.before.before.before.before in let a) = c.args in
-    Put c.put_bytes-p.result c.put_cell.result (cell_text a.number 10) c.put_bytes-p.new.out c.put_cell.new.out = let j = c.before.before.before.before in
-    let n = names in
-    record { room = omega (arith, c.requires.1, short c.args.number, n.next, put_length n); next = c.put_cell.ensures.value; bytes = c.put_cell.ensures.out_after } in
-    let k = c.before.before in
+    let names : Put 0 c.put_bytes-p.result (bytes "refusal\n") c.args.out.now c.put_bytes-p.new.out =
+    record { room = omega (arith, c.requires.1); next = c.put_bytes-p.ensures.value; bytes = c.put_bytes-p.ensures.out_after } in
+    let last : Put c.put_bytes-p.result c.put_cell.result (cell_text c.args.number 10) c.put_bytes-p.new.out c.put_cell.new.out =
+    record { room = omega (arith, c.requires.1, short c.args.number, names.next, put_length names); next = c.put_cell.ensures.value; bytes = c.put_cell.ensures.out_after } in
     let p = put_more names last in
     record { size = omega (arith, p.next); slice = p.bytes ∙ stamp_front (refusal_text c.args.number) _ }

@@ -1,6 +1,6 @@
 -- `given::decompose_by` meets its contract: the descent by given coverings of analysis/proofs/Descend.antt. Assumes nothing.
 use mathlib.Core.Path.{◌≡◌}
-use Prim.Native.Nat.{◌*◌, ◌-◌}
+use Prim.Native.Nat.{◌*◌}
 use lib.ListN.{length}
 use Rattle.pyramid.specs.Plane.{listed}
 use Rattle.pyramid.specs.Slices.{image_of}

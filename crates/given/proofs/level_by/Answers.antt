@@ -1,6 +1,6 @@
 -- `given::level_by` meets its contract: the walk over the blocks by given coverings of analysis/proofs/Levelwise.antt. Assumes nothing.
 use mathlib.Core.Path.{refl, sym, ◌∙◌}
-use Prim.Native.Nat.{◌+◌, ◌-◌, ◌<◌}
+use Prim.Native.Nat.{◌+◌, ◌<◌}
 use native.Mathlib.Omega.{arith}
 use Rattle.pyramid.specs.Plane.{blocks, after, listed}
 use Rattle.analysis.proofs.Bandwise.{region_in, blocks_few}

@@ -15,12 +15,6 @@ overflow_mul-n c =
     let g = room_left head.invariant.1 (omega arith) in
     omega arith
 
-pub overflow_add-at : goal.overflow_add-at
-overflow_add-at c =
-    let head = c.loop-rest in
-    let g = room_left head.invariant.1 (omega arith) in
-    omega arith
-
 pub move_numbers-requires : goal.move_numbers-requires
 move_numbers-requires c =
     let head = c.loop-rest in
@@ -50,9 +44,6 @@ loop-rest-preserved c =
     let head = c.loop-rest in
     let t = part-turn head.invariant.1 (omega arith) c.move_numbers.ensures c.move_numbers-in-loop-rest.ensures in
     (t.long ∙ sym head.invariant.1.long ∙ head.invariant.0, t)
-
-pub shape_of-coverings : goal.shape_of-coverings
-shape_of-coverings c = c.loop-rest.invariant.0
 
 pub returns : goal.returns
 returns c =

@@ -28,15 +28,12 @@ loop-j-init c = (omega arith, λ p l. absurd (omega arith))
 
 pub column_whole-requires : goal.column_whole-requires
 column_whole-requires c =
-    let i = c.before in
-
-let col : (let a = c.args in c.loop-j.j < halved (a.levels - 1) a.width / 4) = let a = c.args in omega (arith, c.loop-j-test.true, ap (λ (n : ℕ). n / 4) (halved_shift (a.levels - 1) a.width)) in
+    let col : (let a = c.args in c.loop-j.j < halved (a.levels - 1) a.width / 4) = let a = c.args in omega (arith, c.loop-j-test.true, ap (λ (n : ℕ). n / 4) (halved_shift (a.levels - 1) a.width)) in
     record { cells_value = c.cells-cells.ensures; restorable = c.requires; j_bound = (col, c.power-unit.ensures) }
 
 pub returns-then-not-column_whole : goal.returns-then-not-column_whole
 returns-then-not-column_whole c =
     let col : (let a = c.args in c.loop-j.j < halved (a.levels - 1) a.width / 4) = let a = c.args in omega (arith, c.loop-j-test.true, ap (λ (n : ℕ). n / 4) (halved_shift (a.levels - 1) a.width)) in
-    let i = w.before.before in
     let a = c.args in
     let e = every_cell a.levels a.height a.width a.coverings.now a.plane.now in
     sym (is_false _ (λ t. failed c.column_whole.result c.if-not-column_whole.true (c.column_whole.ensures.1 (in_picture a.levels a.height a.width c.requires.some c.requires.fits (WholeCell a.levels a.height a.width a.coverings.now a.plane.now) (e.0 t) c.loop-j.j col))))
@@ -44,7 +41,7 @@ returns-then-not-column_whole c =
 pub overflow_add-j : goal.overflow_add-j
 overflow_add-j c =
     let col : (let a = c.args in c.loop-j.j < halved (a.levels - 1) a.width / 4) = let a = c.args in omega (arith, c.loop-j-test.true, ap (λ (n : ℕ). n / 4) (halved_shift (a.levels - 1) a.width)) in
-    let i = c.before.before.before in omega (arith, col, halved_le (c.args.levels - 1) c.args.width, c.requires.width)
+    omega (arith, col, halved_le (c.args.levels - 1) c.args.width, c.requires.width)
 
 pub loop-j-smaller : goal.loop-j-smaller
 loop-j-smaller c = omega (arith, c.loop-j-test.true)

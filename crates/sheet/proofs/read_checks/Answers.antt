@@ -1,35 +1,9 @@
 -- `sheet::read_checks` meets its contract: each return by what the tests before it found. Assumes nothing.
-use native.Mathlib.Omega.{arith}
-use Rattle.refusals.proofs.After.{front_refused}
-use Rattle.places.proofs.Sides.{Passed, size_passed}
+use Rattle.places.proofs.Sides.{size_passed}
 use Rattle.sheet.proofs.read_checks.Goals as goal
 
-good : (c : goal.In_default) → let l = c.args.l in Passed l.height l.width l.levels
-good c = size_passed _ _ _ c.in_default.is c.size_checks-sized.ensures
-
-pub size_checks-sized-requires : goal.size_checks-sized-requires
-size_checks-sized-requires c = tt
-
-pub returns-in-Refused : goal.returns-in-Refused
-returns-in-Refused c = front_refused c.in-Refused.r _ c.in-Refused.is (c.size_checks-sized.ensures _)
-
-pub overflow_mul-area : goal.overflow_mul-area
-overflow_mul-area c = omega (arith, (good c).area)
-
 pub count_blocks-blocks-requires : goal.count_blocks-blocks-requires
-count_blocks-blocks-requires c = let z = good c in (z.tall, z.wide, z.few)
-
-pub returns-then-not-framed : goal.returns-then-not-framed
-returns-then-not-framed c = let z = good c.before.before in rw (z.sided, z.deep, ← c.count_blocks-blocks.ensures.0, c.if-not-framed.true)
-
-pub returns-then-not-sorted : goal.returns-then-not-sorted
-returns-then-not-sorted c = let z = good c.before.before.before.before in rw (z.sided, z.deep, ← c.count_blocks-blocks.ensures.0, c.if-not-framed.false, c.if-not-sorted.true)
-
-pub returns-then-not-l : goal.returns-then-not-l
-returns-then-not-l c = let z = good c.before.before.before.before.before.before in rw (z.sided, z.deep, ← c.count_blocks-blocks.ensures.0, c.if-not-framed.false, c.if-not-sorted.false, c.if-not-l.true)
-
-pub returns-then-not-l-2 : goal.returns-then-not-l-2
-returns-then-not-l-2 c = let z = good c.before.before.before.before.before.before.before.before in rw (z.sided, z.deep, ← c.count_blocks-blocks.ensures.0, c.if-not-framed.false, c.if-not-sorted.false, c.if-not-l.false, c.if-not-l-2.true)
-
-pub returns : goal.returns
-returns c = let z = good c.before.before.before.before.before.before.before.before in rw (z.sided, z.deep, ← c.count_blocks-blocks.ensures.0, c.if-not-framed.false, c.if-not-sorted.false, c.if-not-l.false, c.if-not-l-2.false)
+count_blocks-blocks-requires c =
+    let l = c.args.l in
+    let z = size_passed l.height l.width l.levels c.in_default.is c.size_checks-sized.ensures in
+    (z.tall, z.wide, z.few)

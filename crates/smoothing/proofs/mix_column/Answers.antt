@@ -19,65 +19,65 @@ use Rattle.smoothing.proofs.mix_column.Goals as goal
 
 pub overflow_mul-first : goal.overflow_mul-first
 overflow_mul-first c =
-    let small : c.args.width * c.args.height ≤ 262144 = mul-le-mul c.requires.0.2 c.requires.0.1 in
-    let l : c.args.col ≤ c.args.width = omega (arith, c.requires.0.0) in omega (arith, small, mul-le-mul_right c.args.height l)
+    let small : c.args.width * c.args.height ≤ 262144 = mul-le-mul c.requires.col_lt_width.2 c.requires.col_lt_width.1 in
+    let l : c.args.col ≤ c.args.width = omega (arith, c.requires.col_lt_width.0) in omega (arith, small, mul-le-mul_right c.args.height l)
 
 pub low_rows-low-requires : goal.low_rows-low-requires
 low_rows-low-requires c = tt
 
 pub mix_run-requires : goal.mix_run-requires
 mix_run-requires c =
-    let small : c.args.width * c.args.height ≤ 262144 = mul-le-mul c.requires.0.2 c.requires.0.1 in
-    let rows : (let a = c.args in c.low_rows-low.result ≡ cond (ltb a.col (halved a.levels a.width)) (halved a.levels a.height) 0) = c.low_rows-low.ensures ∙ λ i. cond (ltb c.args.col (c.requires.0.4 i)) (c.requires.0.3 i) 0 in
+    let small : c.args.width * c.args.height ≤ 262144 = mul-le-mul c.requires.col_lt_width.2 c.requires.col_lt_width.1 in
+    let rows : (let a = c.args in c.low_rows-low.result ≡ cond (ltb a.col (halved a.levels a.width)) (halved a.levels a.height) 0) = c.low_rows-low.ensures ∙ λ i. cond (ltb c.args.col (c.requires.col_lt_width.4 i)) (c.requires.col_lt_width.3 i) 0 in
     record {
       count_in_bounds = (
-        omega (arith, c.requires.1.0.2, rows_inside c.args.levels c.args.height c.args.width c.args.step c.args.plane.now c.args.decomposed.now c.args.col c.requires.0.0 c.low_rows-low.result rows),
-        omega (arith, c.requires.1.0.2, small),
-        c.requires.1.0.0 ∙ sym c.requires.1.0.2,
-        c.requires.1.0.1 ∙ sym c.requires.1.0.2,
-        c.requires.0.5,
+        omega (arith, c.requires.plane_len.2, rows_inside c.args.levels c.args.height c.args.width c.args.step c.args.plane.now c.args.decomposed.now c.args.col c.requires.col_lt_width.0 c.low_rows-low.result rows),
+        omega (arith, c.requires.plane_len.2, small),
+        c.requires.plane_len.0 ∙ sym c.requires.plane_len.2,
+        c.requires.plane_len.1 ∙ sym c.requires.plane_len.2,
+        c.requires.col_lt_width.5,
       );
-      by_index = ((λ k l. c.requires.1.1.0 k (omega (arith, c.requires.1.0.2))), (λ k l. c.requires.1.1.1 k (omega (arith, c.requires.1.0.2))));
+      by_index = ((λ k l. c.requires.by_index.0 k (omega (arith, c.requires.plane_len.2))), (λ k l. c.requires.by_index.1 k (omega (arith, c.requires.plane_len.2))));
     }
 
 pub overflow_add-first : goal.overflow_add-first
 overflow_add-first c =
-    let small : c.args.width * c.args.height ≤ 262144 = mul-le-mul c.requires.0.2 c.requires.0.1 in
-    let rows : (let a = c.args in c.low_rows-low.result ≡ cond (ltb a.col (halved a.levels a.width)) (halved a.levels a.height) 0) = c.low_rows-low.ensures ∙ λ i. cond (ltb c.args.col (c.requires.0.4 i)) (c.requires.0.3 i) 0 in
-    omega (arith, small, rows_inside c.args.levels c.args.height c.args.width c.args.step c.args.plane.now c.args.decomposed.now c.args.col c.requires.0.0 c.low_rows-low.result rows)
+    let small : c.args.width * c.args.height ≤ 262144 = mul-le-mul c.requires.col_lt_width.2 c.requires.col_lt_width.1 in
+    let rows : (let a = c.args in c.low_rows-low.result ≡ cond (ltb a.col (halved a.levels a.width)) (halved a.levels a.height) 0) = c.low_rows-low.ensures ∙ λ i. cond (ltb c.args.col (c.requires.col_lt_width.4 i)) (c.requires.col_lt_width.3 i) 0 in
+    omega (arith, small, rows_inside c.args.levels c.args.height c.args.width c.args.step c.args.plane.now c.args.decomposed.now c.args.col c.requires.col_lt_width.0 c.low_rows-low.result rows)
 
 pub overflow_sub-height : goal.overflow_sub-height
 overflow_sub-height c =
-    let rows : (let a = c.args in c.low_rows-low.result ≡ cond (ltb a.col (halved a.levels a.width)) (halved a.levels a.height) 0) = c.low_rows-low.ensures ∙ λ i. cond (ltb c.args.col (c.requires.0.4 i)) (c.requires.0.3 i) 0 in
-    rows-most c.args.levels c.args.height c.args.width c.args.step c.args.plane.now c.args.decomposed.now c.args.col c.requires.0.0 c.low_rows-low.result rows
+    let rows : (let a = c.args in c.low_rows-low.result ≡ cond (ltb a.col (halved a.levels a.width)) (halved a.levels a.height) 0) = c.low_rows-low.ensures ∙ λ i. cond (ltb c.args.col (c.requires.col_lt_width.4 i)) (c.requires.col_lt_width.3 i) 0 in
+    rows-most c.args.levels c.args.height c.args.width c.args.step c.args.plane.now c.args.decomposed.now c.args.col c.requires.col_lt_width.0 c.low_rows-low.result rows
 
 pub mix_run-requires-2 : goal.mix_run-requires-2
 mix_run-requires-2 c =
-    let small : c.args.width * c.args.height ≤ 262144 = mul-le-mul c.requires.0.2 c.requires.0.1 in
-    let rows : (let a = c.args in c.low_rows-low.result ≡ cond (ltb a.col (halved a.levels a.width)) (halved a.levels a.height) 0) = c.low_rows-low.ensures ∙ λ i. cond (ltb c.args.col (c.requires.0.4 i)) (c.requires.0.3 i) 0 in
-    let e = c.mix_run.auto.1.1.1.1.1.1.0 ∙ c.requires.1.0.2 in record {
+    let small : c.args.width * c.args.height ≤ 262144 = mul-le-mul c.requires.col_lt_width.2 c.requires.col_lt_width.1 in
+    let rows : (let a = c.args in c.low_rows-low.result ≡ cond (ltb a.col (halved a.levels a.width)) (halved a.levels a.height) 0) = c.low_rows-low.ensures ∙ λ i. cond (ltb c.args.col (c.requires.col_lt_width.4 i)) (c.requires.col_lt_width.3 i) 0 in
+    let e = c.mix_run.auto.out ∙ c.requires.plane_len.2 in record {
       count_in_bounds = (
-        omega (arith, e, rest-inside c.args.levels c.args.height c.args.width c.args.step c.args.plane.now c.args.decomposed.now c.args.col c.requires.0.0 c.low_rows-low.result rows),
+        omega (arith, e, rest-inside c.args.levels c.args.height c.args.width c.args.step c.args.plane.now c.args.decomposed.now c.args.col c.requires.col_lt_width.0 c.low_rows-low.result rows),
         omega (arith, e, small),
-        c.requires.1.0.0 ∙ sym e,
-        c.requires.1.0.1 ∙ sym e,
-        c.requires.0.5,
+        c.requires.plane_len.0 ∙ sym e,
+        c.requires.plane_len.1 ∙ sym e,
+        c.requires.col_lt_width.5,
       );
-      by_index = ((λ k l. c.requires.1.1.0 k (omega (arith, e))), (λ k l. c.requires.1.1.1 k (omega (arith, e))));
+      by_index = ((λ k l. c.requires.by_index.0 k (omega (arith, e))), (λ k l. c.requires.by_index.1 k (omega (arith, e))));
     }
 
 pub shape_of-out : goal.shape_of-out
-shape_of-out c = c.mix_run-2.auto.1.1.1.1.1.1.0 ∙ c.mix_run.auto.1.1.1.1.1.1.0
+shape_of-out c = c.mix_run-2.auto.out ∙ c.mix_run.auto.out
 
 pub returns : goal.returns
 returns c =
     let all_long : length (mixed_of c.args.levels c.args.height c.args.width c.args.step c.args.plane.now c.args.decomposed.now) ≡ c.args.width * c.args.height = slice_length c.args.height c.args.width (λ y x. pos 16 *ℤ image_of c.args.height c.args.plane.now y x -ℤ pos c.args.step *ℤ masked c.args.levels c.args.height c.args.width (image_of c.args.height c.args.plane.now) (image_of c.args.height c.args.decomposed.now) y x) in
-    let rows : (let a = c.args in c.low_rows-low.result ≡ cond (ltb a.col (halved a.levels a.width)) (halved a.levels a.height) 0) = c.low_rows-low.ensures ∙ λ i. cond (ltb c.args.col (c.requires.0.4 i)) (c.requires.0.3 i) 0 in
+    let rows : (let a = c.args in c.low_rows-low.result ≡ cond (ltb a.col (halved a.levels a.width)) (halved a.levels a.height) 0) = c.low_rows-low.ensures ∙ λ i. cond (ltb c.args.col (c.requires.col_lt_width.4 i)) (c.requires.col_lt_width.3 i) 0 in
     let n = c.low_rows-low.result in
     let r = rows in
     λ old l e.
     c.mix_run-2.ensures (mixed_of c.args.levels c.args.height c.args.width c.args.step c.args.plane.now c.args.decomposed.now) old
-    (lower c.args.levels c.args.height c.args.width c.args.step c.args.plane.now c.args.decomposed.now c.args.col c.requires.0.0 n r) (all_long ∙ sym l) (l ∙ sym c.requires.1.0.2 ∙ sym c.mix_run.auto.1.1.1.1.1.1.0)
+    (lower c.args.levels c.args.height c.args.width c.args.step c.args.plane.now c.args.decomposed.now c.args.col c.requires.col_lt_width.0 n r) (all_long ∙ sym l) (l ∙ sym c.requires.plane_len.2 ∙ sym c.mix_run.auto.out)
     (c.mix_run.ensures (mixed_of c.args.levels c.args.height c.args.width c.args.step c.args.plane.now c.args.decomposed.now) old
-    (upper c.args.levels c.args.height c.args.width c.args.step c.args.plane.now c.args.decomposed.now c.args.col c.requires.0.0 n r) (all_long ∙ sym l) (l ∙ sym c.requires.1.0.2) e)
-    ∙ ap (half (mixed_of c.args.levels c.args.height c.args.width c.args.step c.args.plane.now c.args.decomposed.now) old) (rest-ends c.args.levels c.args.height c.args.width c.args.step c.args.plane.now c.args.decomposed.now c.args.col c.requires.0.0 n r)
+    (upper c.args.levels c.args.height c.args.width c.args.step c.args.plane.now c.args.decomposed.now c.args.col c.requires.col_lt_width.0 n r) (all_long ∙ sym l) (l ∙ sym c.requires.plane_len.2) e)
+    ∙ ap (half (mixed_of c.args.levels c.args.height c.args.width c.args.step c.args.plane.now c.args.decomposed.now) old) (rest-ends c.args.levels c.args.height c.args.width c.args.step c.args.plane.now c.args.decomposed.now c.args.col c.requires.col_lt_width.0 n r)

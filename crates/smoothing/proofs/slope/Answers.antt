@@ -56,41 +56,41 @@ against_behind-right-requires c =
 
 pub overflow_add-result : goal.overflow_add-result
 overflow_add-result c =
-    let above_small : nat_abs (against (ltb 0 c.args.row) ((λ n. get_or c.args.values.now n (pos 0)) (c.args.col * c.args.height + c.args.row)) ((λ n. get_or c.args.values.now n (pos 0)) ((c.args.col * c.args.height + c.args.row) - 1))) ≤ 1 = against_abs (ltb 0 c.args.row) ((λ n. get_or c.args.values.now n (pos 0)) (c.args.col * c.args.height + c.args.row)) ((λ n. get_or c.args.values.now n (pos 0)) ((c.args.col * c.args.height + c.args.row) - 1)) in
-    let below_small : nat_abs (against (ltb (c.args.row + 1) c.args.height) ((λ n. get_or c.args.values.now n (pos 0)) (c.args.col * c.args.height + c.args.row)) ((λ n. get_or c.args.values.now n (pos 0)) ((c.args.col * c.args.height + c.args.row) + 1))) ≤ 1 = against_abs (ltb (c.args.row + 1) c.args.height) ((λ n. get_or c.args.values.now n (pos 0)) (c.args.col * c.args.height + c.args.row)) ((λ n. get_or c.args.values.now n (pos 0)) ((c.args.col * c.args.height + c.args.row) + 1)) in
-    let left_small : nat_abs (against (ltb 0 c.args.col) ((λ n. get_or c.args.values.now n (pos 0)) (c.args.col * c.args.height + c.args.row)) ((λ n. get_or c.args.values.now n (pos 0)) ((c.args.col * c.args.height + c.args.row) - c.args.height))) ≤ 1 = against_abs (ltb 0 c.args.col) ((λ n. get_or c.args.values.now n (pos 0)) (c.args.col * c.args.height + c.args.row)) ((λ n. get_or c.args.values.now n (pos 0)) ((c.args.col * c.args.height + c.args.row) - c.args.height)) in
-    let right_small : nat_abs (against (ltb (c.args.col + 1) c.args.width) ((λ n. get_or c.args.values.now n (pos 0)) (c.args.col * c.args.height + c.args.row)) ((λ n. get_or c.args.values.now n (pos 0)) ((c.args.col * c.args.height + c.args.row) + c.args.height))) ≤ 1 = against_abs (ltb (c.args.col + 1) c.args.width) ((λ n. get_or c.args.values.now n (pos 0)) (c.args.col * c.args.height + c.args.row)) ((λ n. get_or c.args.values.now n (pos 0)) ((c.args.col * c.args.height + c.args.row) + c.args.height)) in
-    two_fit (against (ltb 0 c.args.row) ((λ n. get_or c.args.values.now n (pos 0)) (c.args.col * c.args.height + c.args.row)) ((λ n. get_or c.args.values.now n (pos 0)) ((c.args.col * c.args.height + c.args.row) - 1))) (against (ltb (c.args.row + 1) c.args.height) ((λ n. get_or c.args.values.now n (pos 0)) (c.args.col * c.args.height + c.args.row)) ((λ n. get_or c.args.values.now n (pos 0)) ((c.args.col * c.args.height + c.args.row) + 1))) (against (ltb 0 c.args.col) ((λ n. get_or c.args.values.now n (pos 0)) (c.args.col * c.args.height + c.args.row)) ((λ n. get_or c.args.values.now n (pos 0)) ((c.args.col * c.args.height + c.args.row) - c.args.height))) (against (ltb (c.args.col + 1) c.args.width) ((λ n. get_or c.args.values.now n (pos 0)) (c.args.col * c.args.height + c.args.row)) ((λ n. get_or c.args.values.now n (pos 0)) ((c.args.col * c.args.height + c.args.row) + c.args.height))) c.against_before-above.ensures c.against_behind-below.ensures c.against_before-left.ensures c.against_behind-right.ensures above_small below_small left_small right_small
+    let above_small : nat_abs (against (ltb 0 c.args.row) (get_or c.args.values.now (c.args.col * c.args.height + c.args.row) (pos 0)) (get_or c.args.values.now ((c.args.col * c.args.height + c.args.row) - 1) (pos 0))) ≤ 1 = against_abs (ltb 0 c.args.row) (get_or c.args.values.now (c.args.col * c.args.height + c.args.row) (pos 0)) (get_or c.args.values.now ((c.args.col * c.args.height + c.args.row) - 1) (pos 0)) in
+    let below_small : nat_abs (against (ltb (c.args.row + 1) c.args.height) (get_or c.args.values.now (c.args.col * c.args.height + c.args.row) (pos 0)) (get_or c.args.values.now ((c.args.col * c.args.height + c.args.row) + 1) (pos 0))) ≤ 1 = against_abs (ltb (c.args.row + 1) c.args.height) (get_or c.args.values.now (c.args.col * c.args.height + c.args.row) (pos 0)) (get_or c.args.values.now ((c.args.col * c.args.height + c.args.row) + 1) (pos 0)) in
+    let left_small : nat_abs (against (ltb 0 c.args.col) (get_or c.args.values.now (c.args.col * c.args.height + c.args.row) (pos 0)) (get_or c.args.values.now ((c.args.col * c.args.height + c.args.row) - c.args.height) (pos 0))) ≤ 1 = against_abs (ltb 0 c.args.col) (get_or c.args.values.now (c.args.col * c.args.height + c.args.row) (pos 0)) (get_or c.args.values.now ((c.args.col * c.args.height + c.args.row) - c.args.height) (pos 0)) in
+    let right_small : nat_abs (against (ltb (c.args.col + 1) c.args.width) (get_or c.args.values.now (c.args.col * c.args.height + c.args.row) (pos 0)) (get_or c.args.values.now ((c.args.col * c.args.height + c.args.row) + c.args.height) (pos 0))) ≤ 1 = against_abs (ltb (c.args.col + 1) c.args.width) (get_or c.args.values.now (c.args.col * c.args.height + c.args.row) (pos 0)) (get_or c.args.values.now ((c.args.col * c.args.height + c.args.row) + c.args.height) (pos 0)) in
+    two_fit (against (ltb 0 c.args.row) (get_or c.args.values.now (c.args.col * c.args.height + c.args.row) (pos 0)) (get_or c.args.values.now ((c.args.col * c.args.height + c.args.row) - 1) (pos 0))) (against (ltb (c.args.row + 1) c.args.height) (get_or c.args.values.now (c.args.col * c.args.height + c.args.row) (pos 0)) (get_or c.args.values.now ((c.args.col * c.args.height + c.args.row) + 1) (pos 0))) (against (ltb 0 c.args.col) (get_or c.args.values.now (c.args.col * c.args.height + c.args.row) (pos 0)) (get_or c.args.values.now ((c.args.col * c.args.height + c.args.row) - c.args.height) (pos 0))) (against (ltb (c.args.col + 1) c.args.width) (get_or c.args.values.now (c.args.col * c.args.height + c.args.row) (pos 0)) (get_or c.args.values.now ((c.args.col * c.args.height + c.args.row) + c.args.height) (pos 0))) c.against_before-above.ensures c.against_behind-below.ensures c.against_before-left.ensures c.against_behind-right.ensures above_small below_small left_small right_small
 
 pub overflow_add-result-2 : goal.overflow_add-result-2
 overflow_add-result-2 c =
-    let above_small : nat_abs (against (ltb 0 c.args.row) ((λ n. get_or c.args.values.now n (pos 0)) (c.args.col * c.args.height + c.args.row)) ((λ n. get_or c.args.values.now n (pos 0)) ((c.args.col * c.args.height + c.args.row) - 1))) ≤ 1 = against_abs (ltb 0 c.args.row) ((λ n. get_or c.args.values.now n (pos 0)) (c.args.col * c.args.height + c.args.row)) ((λ n. get_or c.args.values.now n (pos 0)) ((c.args.col * c.args.height + c.args.row) - 1)) in
-    let below_small : nat_abs (against (ltb (c.args.row + 1) c.args.height) ((λ n. get_or c.args.values.now n (pos 0)) (c.args.col * c.args.height + c.args.row)) ((λ n. get_or c.args.values.now n (pos 0)) ((c.args.col * c.args.height + c.args.row) + 1))) ≤ 1 = against_abs (ltb (c.args.row + 1) c.args.height) ((λ n. get_or c.args.values.now n (pos 0)) (c.args.col * c.args.height + c.args.row)) ((λ n. get_or c.args.values.now n (pos 0)) ((c.args.col * c.args.height + c.args.row) + 1)) in
-    let left_small : nat_abs (against (ltb 0 c.args.col) ((λ n. get_or c.args.values.now n (pos 0)) (c.args.col * c.args.height + c.args.row)) ((λ n. get_or c.args.values.now n (pos 0)) ((c.args.col * c.args.height + c.args.row) - c.args.height))) ≤ 1 = against_abs (ltb 0 c.args.col) ((λ n. get_or c.args.values.now n (pos 0)) (c.args.col * c.args.height + c.args.row)) ((λ n. get_or c.args.values.now n (pos 0)) ((c.args.col * c.args.height + c.args.row) - c.args.height)) in
-    let right_small : nat_abs (against (ltb (c.args.col + 1) c.args.width) ((λ n. get_or c.args.values.now n (pos 0)) (c.args.col * c.args.height + c.args.row)) ((λ n. get_or c.args.values.now n (pos 0)) ((c.args.col * c.args.height + c.args.row) + c.args.height))) ≤ 1 = against_abs (ltb (c.args.col + 1) c.args.width) ((λ n. get_or c.args.values.now n (pos 0)) (c.args.col * c.args.height + c.args.row)) ((λ n. get_or c.args.values.now n (pos 0)) ((c.args.col * c.args.height + c.args.row) + c.args.height)) in
-    three_fit (against (ltb 0 c.args.row) ((λ n. get_or c.args.values.now n (pos 0)) (c.args.col * c.args.height + c.args.row)) ((λ n. get_or c.args.values.now n (pos 0)) ((c.args.col * c.args.height + c.args.row) - 1))) (against (ltb (c.args.row + 1) c.args.height) ((λ n. get_or c.args.values.now n (pos 0)) (c.args.col * c.args.height + c.args.row)) ((λ n. get_or c.args.values.now n (pos 0)) ((c.args.col * c.args.height + c.args.row) + 1))) (against (ltb 0 c.args.col) ((λ n. get_or c.args.values.now n (pos 0)) (c.args.col * c.args.height + c.args.row)) ((λ n. get_or c.args.values.now n (pos 0)) ((c.args.col * c.args.height + c.args.row) - c.args.height))) (against (ltb (c.args.col + 1) c.args.width) ((λ n. get_or c.args.values.now n (pos 0)) (c.args.col * c.args.height + c.args.row)) ((λ n. get_or c.args.values.now n (pos 0)) ((c.args.col * c.args.height + c.args.row) + c.args.height))) c.against_before-above.ensures c.against_behind-below.ensures c.against_before-left.ensures c.against_behind-right.ensures above_small below_small left_small right_small
+    let above_small : nat_abs (against (ltb 0 c.args.row) (get_or c.args.values.now (c.args.col * c.args.height + c.args.row) (pos 0)) (get_or c.args.values.now ((c.args.col * c.args.height + c.args.row) - 1) (pos 0))) ≤ 1 = against_abs (ltb 0 c.args.row) (get_or c.args.values.now (c.args.col * c.args.height + c.args.row) (pos 0)) (get_or c.args.values.now ((c.args.col * c.args.height + c.args.row) - 1) (pos 0)) in
+    let below_small : nat_abs (against (ltb (c.args.row + 1) c.args.height) (get_or c.args.values.now (c.args.col * c.args.height + c.args.row) (pos 0)) (get_or c.args.values.now ((c.args.col * c.args.height + c.args.row) + 1) (pos 0))) ≤ 1 = against_abs (ltb (c.args.row + 1) c.args.height) (get_or c.args.values.now (c.args.col * c.args.height + c.args.row) (pos 0)) (get_or c.args.values.now ((c.args.col * c.args.height + c.args.row) + 1) (pos 0)) in
+    let left_small : nat_abs (against (ltb 0 c.args.col) (get_or c.args.values.now (c.args.col * c.args.height + c.args.row) (pos 0)) (get_or c.args.values.now ((c.args.col * c.args.height + c.args.row) - c.args.height) (pos 0))) ≤ 1 = against_abs (ltb 0 c.args.col) (get_or c.args.values.now (c.args.col * c.args.height + c.args.row) (pos 0)) (get_or c.args.values.now ((c.args.col * c.args.height + c.args.row) - c.args.height) (pos 0)) in
+    let right_small : nat_abs (against (ltb (c.args.col + 1) c.args.width) (get_or c.args.values.now (c.args.col * c.args.height + c.args.row) (pos 0)) (get_or c.args.values.now ((c.args.col * c.args.height + c.args.row) + c.args.height) (pos 0))) ≤ 1 = against_abs (ltb (c.args.col + 1) c.args.width) (get_or c.args.values.now (c.args.col * c.args.height + c.args.row) (pos 0)) (get_or c.args.values.now ((c.args.col * c.args.height + c.args.row) + c.args.height) (pos 0)) in
+    three_fit (against (ltb 0 c.args.row) (get_or c.args.values.now (c.args.col * c.args.height + c.args.row) (pos 0)) (get_or c.args.values.now ((c.args.col * c.args.height + c.args.row) - 1) (pos 0))) (against (ltb (c.args.row + 1) c.args.height) (get_or c.args.values.now (c.args.col * c.args.height + c.args.row) (pos 0)) (get_or c.args.values.now ((c.args.col * c.args.height + c.args.row) + 1) (pos 0))) (against (ltb 0 c.args.col) (get_or c.args.values.now (c.args.col * c.args.height + c.args.row) (pos 0)) (get_or c.args.values.now ((c.args.col * c.args.height + c.args.row) - c.args.height) (pos 0))) (against (ltb (c.args.col + 1) c.args.width) (get_or c.args.values.now (c.args.col * c.args.height + c.args.row) (pos 0)) (get_or c.args.values.now ((c.args.col * c.args.height + c.args.row) + c.args.height) (pos 0))) c.against_before-above.ensures c.against_behind-below.ensures c.against_before-left.ensures c.against_behind-right.ensures above_small below_small left_small right_small
 
 pub overflow_add-result-3 : goal.overflow_add-result-3
 overflow_add-result-3 c =
-    let above_small : nat_abs (against (ltb 0 c.args.row) ((λ n. get_or c.args.values.now n (pos 0)) (c.args.col * c.args.height + c.args.row)) ((λ n. get_or c.args.values.now n (pos 0)) ((c.args.col * c.args.height + c.args.row) - 1))) ≤ 1 = against_abs (ltb 0 c.args.row) ((λ n. get_or c.args.values.now n (pos 0)) (c.args.col * c.args.height + c.args.row)) ((λ n. get_or c.args.values.now n (pos 0)) ((c.args.col * c.args.height + c.args.row) - 1)) in
-    let below_small : nat_abs (against (ltb (c.args.row + 1) c.args.height) ((λ n. get_or c.args.values.now n (pos 0)) (c.args.col * c.args.height + c.args.row)) ((λ n. get_or c.args.values.now n (pos 0)) ((c.args.col * c.args.height + c.args.row) + 1))) ≤ 1 = against_abs (ltb (c.args.row + 1) c.args.height) ((λ n. get_or c.args.values.now n (pos 0)) (c.args.col * c.args.height + c.args.row)) ((λ n. get_or c.args.values.now n (pos 0)) ((c.args.col * c.args.height + c.args.row) + 1)) in
-    let left_small : nat_abs (against (ltb 0 c.args.col) ((λ n. get_or c.args.values.now n (pos 0)) (c.args.col * c.args.height + c.args.row)) ((λ n. get_or c.args.values.now n (pos 0)) ((c.args.col * c.args.height + c.args.row) - c.args.height))) ≤ 1 = against_abs (ltb 0 c.args.col) ((λ n. get_or c.args.values.now n (pos 0)) (c.args.col * c.args.height + c.args.row)) ((λ n. get_or c.args.values.now n (pos 0)) ((c.args.col * c.args.height + c.args.row) - c.args.height)) in
-    let right_small : nat_abs (against (ltb (c.args.col + 1) c.args.width) ((λ n. get_or c.args.values.now n (pos 0)) (c.args.col * c.args.height + c.args.row)) ((λ n. get_or c.args.values.now n (pos 0)) ((c.args.col * c.args.height + c.args.row) + c.args.height))) ≤ 1 = against_abs (ltb (c.args.col + 1) c.args.width) ((λ n. get_or c.args.values.now n (pos 0)) (c.args.col * c.args.height + c.args.row)) ((λ n. get_or c.args.values.now n (pos 0)) ((c.args.col * c.args.height + c.args.row) + c.args.height)) in
-    four_fit (against (ltb 0 c.args.row) ((λ n. get_or c.args.values.now n (pos 0)) (c.args.col * c.args.height + c.args.row)) ((λ n. get_or c.args.values.now n (pos 0)) ((c.args.col * c.args.height + c.args.row) - 1))) (against (ltb (c.args.row + 1) c.args.height) ((λ n. get_or c.args.values.now n (pos 0)) (c.args.col * c.args.height + c.args.row)) ((λ n. get_or c.args.values.now n (pos 0)) ((c.args.col * c.args.height + c.args.row) + 1))) (against (ltb 0 c.args.col) ((λ n. get_or c.args.values.now n (pos 0)) (c.args.col * c.args.height + c.args.row)) ((λ n. get_or c.args.values.now n (pos 0)) ((c.args.col * c.args.height + c.args.row) - c.args.height))) (against (ltb (c.args.col + 1) c.args.width) ((λ n. get_or c.args.values.now n (pos 0)) (c.args.col * c.args.height + c.args.row)) ((λ n. get_or c.args.values.now n (pos 0)) ((c.args.col * c.args.height + c.args.row) + c.args.height))) c.against_before-above.ensures c.against_behind-below.ensures c.against_before-left.ensures c.against_behind-right.ensures above_small below_small left_small right_small
+    let above_small : nat_abs (against (ltb 0 c.args.row) (get_or c.args.values.now (c.args.col * c.args.height + c.args.row) (pos 0)) (get_or c.args.values.now ((c.args.col * c.args.height + c.args.row) - 1) (pos 0))) ≤ 1 = against_abs (ltb 0 c.args.row) (get_or c.args.values.now (c.args.col * c.args.height + c.args.row) (pos 0)) (get_or c.args.values.now ((c.args.col * c.args.height + c.args.row) - 1) (pos 0)) in
+    let below_small : nat_abs (against (ltb (c.args.row + 1) c.args.height) (get_or c.args.values.now (c.args.col * c.args.height + c.args.row) (pos 0)) (get_or c.args.values.now ((c.args.col * c.args.height + c.args.row) + 1) (pos 0))) ≤ 1 = against_abs (ltb (c.args.row + 1) c.args.height) (get_or c.args.values.now (c.args.col * c.args.height + c.args.row) (pos 0)) (get_or c.args.values.now ((c.args.col * c.args.height + c.args.row) + 1) (pos 0)) in
+    let left_small : nat_abs (against (ltb 0 c.args.col) (get_or c.args.values.now (c.args.col * c.args.height + c.args.row) (pos 0)) (get_or c.args.values.now ((c.args.col * c.args.height + c.args.row) - c.args.height) (pos 0))) ≤ 1 = against_abs (ltb 0 c.args.col) (get_or c.args.values.now (c.args.col * c.args.height + c.args.row) (pos 0)) (get_or c.args.values.now ((c.args.col * c.args.height + c.args.row) - c.args.height) (pos 0)) in
+    let right_small : nat_abs (against (ltb (c.args.col + 1) c.args.width) (get_or c.args.values.now (c.args.col * c.args.height + c.args.row) (pos 0)) (get_or c.args.values.now ((c.args.col * c.args.height + c.args.row) + c.args.height) (pos 0))) ≤ 1 = against_abs (ltb (c.args.col + 1) c.args.width) (get_or c.args.values.now (c.args.col * c.args.height + c.args.row) (pos 0)) (get_or c.args.values.now ((c.args.col * c.args.height + c.args.row) + c.args.height) (pos 0)) in
+    four_fit (against (ltb 0 c.args.row) (get_or c.args.values.now (c.args.col * c.args.height + c.args.row) (pos 0)) (get_or c.args.values.now ((c.args.col * c.args.height + c.args.row) - 1) (pos 0))) (against (ltb (c.args.row + 1) c.args.height) (get_or c.args.values.now (c.args.col * c.args.height + c.args.row) (pos 0)) (get_or c.args.values.now ((c.args.col * c.args.height + c.args.row) + 1) (pos 0))) (against (ltb 0 c.args.col) (get_or c.args.values.now (c.args.col * c.args.height + c.args.row) (pos 0)) (get_or c.args.values.now ((c.args.col * c.args.height + c.args.row) - c.args.height) (pos 0))) (against (ltb (c.args.col + 1) c.args.width) (get_or c.args.values.now (c.args.col * c.args.height + c.args.row) (pos 0)) (get_or c.args.values.now ((c.args.col * c.args.height + c.args.row) + c.args.height) (pos 0))) c.against_before-above.ensures c.against_behind-below.ensures c.against_before-left.ensures c.against_behind-right.ensures above_small below_small left_small right_small
 
 pub overflow_mul-result : goal.overflow_mul-result
 overflow_mul-result c =
-    let above_small : nat_abs (against (ltb 0 c.args.row) ((λ n. get_or c.args.values.now n (pos 0)) (c.args.col * c.args.height + c.args.row)) ((λ n. get_or c.args.values.now n (pos 0)) ((c.args.col * c.args.height + c.args.row) - 1))) ≤ 1 = against_abs (ltb 0 c.args.row) ((λ n. get_or c.args.values.now n (pos 0)) (c.args.col * c.args.height + c.args.row)) ((λ n. get_or c.args.values.now n (pos 0)) ((c.args.col * c.args.height + c.args.row) - 1)) in
-    let below_small : nat_abs (against (ltb (c.args.row + 1) c.args.height) ((λ n. get_or c.args.values.now n (pos 0)) (c.args.col * c.args.height + c.args.row)) ((λ n. get_or c.args.values.now n (pos 0)) ((c.args.col * c.args.height + c.args.row) + 1))) ≤ 1 = against_abs (ltb (c.args.row + 1) c.args.height) ((λ n. get_or c.args.values.now n (pos 0)) (c.args.col * c.args.height + c.args.row)) ((λ n. get_or c.args.values.now n (pos 0)) ((c.args.col * c.args.height + c.args.row) + 1)) in
-    let left_small : nat_abs (against (ltb 0 c.args.col) ((λ n. get_or c.args.values.now n (pos 0)) (c.args.col * c.args.height + c.args.row)) ((λ n. get_or c.args.values.now n (pos 0)) ((c.args.col * c.args.height + c.args.row) - c.args.height))) ≤ 1 = against_abs (ltb 0 c.args.col) ((λ n. get_or c.args.values.now n (pos 0)) (c.args.col * c.args.height + c.args.row)) ((λ n. get_or c.args.values.now n (pos 0)) ((c.args.col * c.args.height + c.args.row) - c.args.height)) in
-    let right_small : nat_abs (against (ltb (c.args.col + 1) c.args.width) ((λ n. get_or c.args.values.now n (pos 0)) (c.args.col * c.args.height + c.args.row)) ((λ n. get_or c.args.values.now n (pos 0)) ((c.args.col * c.args.height + c.args.row) + c.args.height))) ≤ 1 = against_abs (ltb (c.args.col + 1) c.args.width) ((λ n. get_or c.args.values.now n (pos 0)) (c.args.col * c.args.height + c.args.row)) ((λ n. get_or c.args.values.now n (pos 0)) ((c.args.col * c.args.height + c.args.row) + c.args.height)) in
-    twice_fit (against (ltb 0 c.args.row) ((λ n. get_or c.args.values.now n (pos 0)) (c.args.col * c.args.height + c.args.row)) ((λ n. get_or c.args.values.now n (pos 0)) ((c.args.col * c.args.height + c.args.row) - 1))) (against (ltb (c.args.row + 1) c.args.height) ((λ n. get_or c.args.values.now n (pos 0)) (c.args.col * c.args.height + c.args.row)) ((λ n. get_or c.args.values.now n (pos 0)) ((c.args.col * c.args.height + c.args.row) + 1))) (against (ltb 0 c.args.col) ((λ n. get_or c.args.values.now n (pos 0)) (c.args.col * c.args.height + c.args.row)) ((λ n. get_or c.args.values.now n (pos 0)) ((c.args.col * c.args.height + c.args.row) - c.args.height))) (against (ltb (c.args.col + 1) c.args.width) ((λ n. get_or c.args.values.now n (pos 0)) (c.args.col * c.args.height + c.args.row)) ((λ n. get_or c.args.values.now n (pos 0)) ((c.args.col * c.args.height + c.args.row) + c.args.height))) c.against_before-above.ensures c.against_behind-below.ensures c.against_before-left.ensures c.against_behind-right.ensures above_small below_small left_small right_small
+    let above_small : nat_abs (against (ltb 0 c.args.row) (get_or c.args.values.now (c.args.col * c.args.height + c.args.row) (pos 0)) (get_or c.args.values.now ((c.args.col * c.args.height + c.args.row) - 1) (pos 0))) ≤ 1 = against_abs (ltb 0 c.args.row) (get_or c.args.values.now (c.args.col * c.args.height + c.args.row) (pos 0)) (get_or c.args.values.now ((c.args.col * c.args.height + c.args.row) - 1) (pos 0)) in
+    let below_small : nat_abs (against (ltb (c.args.row + 1) c.args.height) (get_or c.args.values.now (c.args.col * c.args.height + c.args.row) (pos 0)) (get_or c.args.values.now ((c.args.col * c.args.height + c.args.row) + 1) (pos 0))) ≤ 1 = against_abs (ltb (c.args.row + 1) c.args.height) (get_or c.args.values.now (c.args.col * c.args.height + c.args.row) (pos 0)) (get_or c.args.values.now ((c.args.col * c.args.height + c.args.row) + 1) (pos 0)) in
+    let left_small : nat_abs (against (ltb 0 c.args.col) (get_or c.args.values.now (c.args.col * c.args.height + c.args.row) (pos 0)) (get_or c.args.values.now ((c.args.col * c.args.height + c.args.row) - c.args.height) (pos 0))) ≤ 1 = against_abs (ltb 0 c.args.col) (get_or c.args.values.now (c.args.col * c.args.height + c.args.row) (pos 0)) (get_or c.args.values.now ((c.args.col * c.args.height + c.args.row) - c.args.height) (pos 0)) in
+    let right_small : nat_abs (against (ltb (c.args.col + 1) c.args.width) (get_or c.args.values.now (c.args.col * c.args.height + c.args.row) (pos 0)) (get_or c.args.values.now ((c.args.col * c.args.height + c.args.row) + c.args.height) (pos 0))) ≤ 1 = against_abs (ltb (c.args.col + 1) c.args.width) (get_or c.args.values.now (c.args.col * c.args.height + c.args.row) (pos 0)) (get_or c.args.values.now ((c.args.col * c.args.height + c.args.row) + c.args.height) (pos 0)) in
+    twice_fit (against (ltb 0 c.args.row) (get_or c.args.values.now (c.args.col * c.args.height + c.args.row) (pos 0)) (get_or c.args.values.now ((c.args.col * c.args.height + c.args.row) - 1) (pos 0))) (against (ltb (c.args.row + 1) c.args.height) (get_or c.args.values.now (c.args.col * c.args.height + c.args.row) (pos 0)) (get_or c.args.values.now ((c.args.col * c.args.height + c.args.row) + 1) (pos 0))) (against (ltb 0 c.args.col) (get_or c.args.values.now (c.args.col * c.args.height + c.args.row) (pos 0)) (get_or c.args.values.now ((c.args.col * c.args.height + c.args.row) - c.args.height) (pos 0))) (against (ltb (c.args.col + 1) c.args.width) (get_or c.args.values.now (c.args.col * c.args.height + c.args.row) (pos 0)) (get_or c.args.values.now ((c.args.col * c.args.height + c.args.row) + c.args.height) (pos 0))) c.against_before-above.ensures c.against_behind-below.ensures c.against_before-left.ensures c.against_behind-right.ensures above_small below_small left_small right_small
 
 pub returns : goal.returns
 returns c =
-    let above_small : nat_abs (against (ltb 0 c.args.row) ((λ n. get_or c.args.values.now n (pos 0)) (c.args.col * c.args.height + c.args.row)) ((λ n. get_or c.args.values.now n (pos 0)) ((c.args.col * c.args.height + c.args.row) - 1))) ≤ 1 = against_abs (ltb 0 c.args.row) ((λ n. get_or c.args.values.now n (pos 0)) (c.args.col * c.args.height + c.args.row)) ((λ n. get_or c.args.values.now n (pos 0)) ((c.args.col * c.args.height + c.args.row) - 1)) in
-    let below_small : nat_abs (against (ltb (c.args.row + 1) c.args.height) ((λ n. get_or c.args.values.now n (pos 0)) (c.args.col * c.args.height + c.args.row)) ((λ n. get_or c.args.values.now n (pos 0)) ((c.args.col * c.args.height + c.args.row) + 1))) ≤ 1 = against_abs (ltb (c.args.row + 1) c.args.height) ((λ n. get_or c.args.values.now n (pos 0)) (c.args.col * c.args.height + c.args.row)) ((λ n. get_or c.args.values.now n (pos 0)) ((c.args.col * c.args.height + c.args.row) + 1)) in
-    let left_small : nat_abs (against (ltb 0 c.args.col) ((λ n. get_or c.args.values.now n (pos 0)) (c.args.col * c.args.height + c.args.row)) ((λ n. get_or c.args.values.now n (pos 0)) ((c.args.col * c.args.height + c.args.row) - c.args.height))) ≤ 1 = against_abs (ltb 0 c.args.col) ((λ n. get_or c.args.values.now n (pos 0)) (c.args.col * c.args.height + c.args.row)) ((λ n. get_or c.args.values.now n (pos 0)) ((c.args.col * c.args.height + c.args.row) - c.args.height)) in
-    let right_small : nat_abs (against (ltb (c.args.col + 1) c.args.width) ((λ n. get_or c.args.values.now n (pos 0)) (c.args.col * c.args.height + c.args.row)) ((λ n. get_or c.args.values.now n (pos 0)) ((c.args.col * c.args.height + c.args.row) + c.args.height))) ≤ 1 = against_abs (ltb (c.args.col + 1) c.args.width) ((λ n. get_or c.args.values.now n (pos 0)) (c.args.col * c.args.height + c.args.row)) ((λ n. get_or c.args.values.now n (pos 0)) ((c.args.col * c.args.height + c.args.row) + c.args.height)) in
-    twice_is (against (ltb 0 c.args.row) ((λ n. get_or c.args.values.now n (pos 0)) (c.args.col * c.args.height + c.args.row)) ((λ n. get_or c.args.values.now n (pos 0)) ((c.args.col * c.args.height + c.args.row) - 1))) (against (ltb (c.args.row + 1) c.args.height) ((λ n. get_or c.args.values.now n (pos 0)) (c.args.col * c.args.height + c.args.row)) ((λ n. get_or c.args.values.now n (pos 0)) ((c.args.col * c.args.height + c.args.row) + 1))) (against (ltb 0 c.args.col) ((λ n. get_or c.args.values.now n (pos 0)) (c.args.col * c.args.height + c.args.row)) ((λ n. get_or c.args.values.now n (pos 0)) ((c.args.col * c.args.height + c.args.row) - c.args.height))) (against (ltb (c.args.col + 1) c.args.width) ((λ n. get_or c.args.values.now n (pos 0)) (c.args.col * c.args.height + c.args.row)) ((λ n. get_or c.args.values.now n (pos 0)) ((c.args.col * c.args.height + c.args.row) + c.args.height))) c.against_before-above.ensures c.against_behind-below.ensures c.against_before-left.ensures c.against_behind-right.ensures above_small below_small left_small right_small
+    let above_small : nat_abs (against (ltb 0 c.args.row) (get_or c.args.values.now (c.args.col * c.args.height + c.args.row) (pos 0)) (get_or c.args.values.now ((c.args.col * c.args.height + c.args.row) - 1) (pos 0))) ≤ 1 = against_abs (ltb 0 c.args.row) (get_or c.args.values.now (c.args.col * c.args.height + c.args.row) (pos 0)) (get_or c.args.values.now ((c.args.col * c.args.height + c.args.row) - 1) (pos 0)) in
+    let below_small : nat_abs (against (ltb (c.args.row + 1) c.args.height) (get_or c.args.values.now (c.args.col * c.args.height + c.args.row) (pos 0)) (get_or c.args.values.now ((c.args.col * c.args.height + c.args.row) + 1) (pos 0))) ≤ 1 = against_abs (ltb (c.args.row + 1) c.args.height) (get_or c.args.values.now (c.args.col * c.args.height + c.args.row) (pos 0)) (get_or c.args.values.now ((c.args.col * c.args.height + c.args.row) + 1) (pos 0)) in
+    let left_small : nat_abs (against (ltb 0 c.args.col) (get_or c.args.values.now (c.args.col * c.args.height + c.args.row) (pos 0)) (get_or c.args.values.now ((c.args.col * c.args.height + c.args.row) - c.args.height) (pos 0))) ≤ 1 = against_abs (ltb 0 c.args.col) (get_or c.args.values.now (c.args.col * c.args.height + c.args.row) (pos 0)) (get_or c.args.values.now ((c.args.col * c.args.height + c.args.row) - c.args.height) (pos 0)) in
+    let right_small : nat_abs (against (ltb (c.args.col + 1) c.args.width) (get_or c.args.values.now (c.args.col * c.args.height + c.args.row) (pos 0)) (get_or c.args.values.now ((c.args.col * c.args.height + c.args.row) + c.args.height) (pos 0))) ≤ 1 = against_abs (ltb (c.args.col + 1) c.args.width) (get_or c.args.values.now (c.args.col * c.args.height + c.args.row) (pos 0)) (get_or c.args.values.now ((c.args.col * c.args.height + c.args.row) + c.args.height) (pos 0)) in
+    twice_is (against (ltb 0 c.args.row) (get_or c.args.values.now (c.args.col * c.args.height + c.args.row) (pos 0)) (get_or c.args.values.now ((c.args.col * c.args.height + c.args.row) - 1) (pos 0))) (against (ltb (c.args.row + 1) c.args.height) (get_or c.args.values.now (c.args.col * c.args.height + c.args.row) (pos 0)) (get_or c.args.values.now ((c.args.col * c.args.height + c.args.row) + 1) (pos 0))) (against (ltb 0 c.args.col) (get_or c.args.values.now (c.args.col * c.args.height + c.args.row) (pos 0)) (get_or c.args.values.now ((c.args.col * c.args.height + c.args.row) - c.args.height) (pos 0))) (against (ltb (c.args.col + 1) c.args.width) (get_or c.args.values.now (c.args.col * c.args.height + c.args.row) (pos 0)) (get_or c.args.values.now ((c.args.col * c.args.height + c.args.row) + c.args.height) (pos 0))) c.against_before-above.ensures c.against_behind-below.ensures c.against_before-left.ensures c.against_behind-right.ensures above_small below_small left_small right_small
     ∙ slope_is c.args.height c.args.width c.args.values.now c.args.row c.args.col refl refl refl refl

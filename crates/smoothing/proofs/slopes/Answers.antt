@@ -15,7 +15,7 @@ pub loop-col-init : goal.loop-col-init
 loop-col-init c =
     let F = gradient_of c.args.height c.args.width c.args.values.now in (
       c.requires.1,
-      c.slope_column.auto.1.1.1.1.0 ∙ c.requires.4,
+      c.slope_column.auto.out ∙ c.requires.4,
       (c.args.out.now, c.requires.4, columns_next c.args.height 0 F c.args.out.now (c.slope_column.ensures c.args.out.now c.requires.4 (columns_none c.args.height F c.args.out.now))),
     )
 
@@ -33,7 +33,7 @@ loop-col-preserved c =
     let l = c.loop-col in
     let o = l.invariant.2 in (
       omega arith,
-      c.slope_column-in-loop-col.auto.1.1.1.1.0 ∙ l.invariant.1,
+      c.slope_column-in-loop-col.auto.out ∙ l.invariant.1,
       (o.0, o.1, columns_next c.args.height l.col (gradient_of c.args.height c.args.width c.args.values.now) o.0 (c.slope_column-in-loop-col.ensures o.0 o.1 o.2)),
     )
 

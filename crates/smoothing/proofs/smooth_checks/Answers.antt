@@ -34,11 +34,11 @@ is_framed-requires c =
 pub returns-then-not-framed : goal.returns-then-not-framed
 returns-then-not-framed c =
     let behind : let a = c.args in
-    refuse_if (not (is_framed (strip_of c.args.height c.args.width c.args.levels c.args.plane.now c.args.coverings.now) && (is_plane a.height a.width a.result.now && is_plane a.height a.width a.scratch.now))) 3
+    refuse_if (not (is_framed (strip_of c.args.height c.args.width c.args.levels c.args.plane.now c.args.coverings.now) && (is_plane a.height a.width a.res.now && is_plane a.height a.width a.scratch.now))) 3
     (refuse_if (not (is_numbered (strip_of c.args.height c.args.width c.args.levels c.args.plane.now c.args.coverings.now))) 5
     (refuse_if (not (is_ranged (strip_of c.args.height c.args.width c.args.levels c.args.plane.now c.args.coverings.now))) 6
     (refuse_if (ltb 255 a.step) 19 0)))
-    ≡ smooth_refusal (strip_of c.args.height c.args.width c.args.levels c.args.plane.now c.args.coverings.now) a.step a.result.now a.scratch.now = front_passed _ c.in_default.is (c.size_checks-sized.ensures _) in
+    ≡ smooth_refusal (strip_of c.args.height c.args.width c.args.levels c.args.plane.now c.args.coverings.now) a.step a.res.now a.scratch.now = front_passed _ c.in_default.is (c.size_checks-sized.ensures _) in
     rw (← behind, ← c.is_framed.ensures, c.if-not-framed.true)
 
 pub all_numbers-requires : goal.all_numbers-requires
@@ -47,11 +47,11 @@ all_numbers-requires c = tt
 pub returns-then-not-all_numbers : goal.returns-then-not-all_numbers
 returns-then-not-all_numbers c =
     let behind : let a = c.args in
-    refuse_if (not (is_framed (strip_of c.args.height c.args.width c.args.levels c.args.plane.now c.args.coverings.now) && (is_plane a.height a.width a.result.now && is_plane a.height a.width a.scratch.now))) 3
+    refuse_if (not (is_framed (strip_of c.args.height c.args.width c.args.levels c.args.plane.now c.args.coverings.now) && (is_plane a.height a.width a.res.now && is_plane a.height a.width a.scratch.now))) 3
     (refuse_if (not (is_numbered (strip_of c.args.height c.args.width c.args.levels c.args.plane.now c.args.coverings.now))) 5
     (refuse_if (not (is_ranged (strip_of c.args.height c.args.width c.args.levels c.args.plane.now c.args.coverings.now))) 6
     (refuse_if (ltb 255 a.step) 19 0)))
-    ≡ smooth_refusal (strip_of c.args.height c.args.width c.args.levels c.args.plane.now c.args.coverings.now) a.step a.result.now a.scratch.now = front_passed _ c.in_default.is (c.size_checks-sized.ensures _) in
+    ≡ smooth_refusal (strip_of c.args.height c.args.width c.args.levels c.args.plane.now c.args.coverings.now) a.step a.res.now a.scratch.now = front_passed _ c.in_default.is (c.size_checks-sized.ensures _) in
     rw (← behind, ← c.is_framed.ensures, c.if-not-framed.false, ← c.all_numbers.ensures, c.if-not-all_numbers.true)
 
 pub overflow_cast-height : goal.overflow_cast-height
@@ -78,11 +78,11 @@ in_range-requires c =
 pub returns-then-not-in_range : goal.returns-then-not-in_range
 returns-then-not-in_range c =
     let behind : let a = c.args in
-    refuse_if (not (is_framed (strip_of c.args.height c.args.width c.args.levels c.args.plane.now c.args.coverings.now) && (is_plane a.height a.width a.result.now && is_plane a.height a.width a.scratch.now))) 3
+    refuse_if (not (is_framed (strip_of c.args.height c.args.width c.args.levels c.args.plane.now c.args.coverings.now) && (is_plane a.height a.width a.res.now && is_plane a.height a.width a.scratch.now))) 3
     (refuse_if (not (is_numbered (strip_of c.args.height c.args.width c.args.levels c.args.plane.now c.args.coverings.now))) 5
     (refuse_if (not (is_ranged (strip_of c.args.height c.args.width c.args.levels c.args.plane.now c.args.coverings.now))) 6
     (refuse_if (ltb 255 a.step) 19 0)))
-    ≡ smooth_refusal (strip_of c.args.height c.args.width c.args.levels c.args.plane.now c.args.coverings.now) a.step a.result.now a.scratch.now = front_passed _ c.in_default.is (c.size_checks-sized.ensures _) in
+    ≡ smooth_refusal (strip_of c.args.height c.args.width c.args.levels c.args.plane.now c.args.coverings.now) a.step a.res.now a.scratch.now = front_passed _ c.in_default.is (c.size_checks-sized.ensures _) in
     rw (
       ← behind,
       ← c.is_framed.ensures,
@@ -99,11 +99,11 @@ largest_step-requires c = tt
 pub returns-then-largest_step-step : goal.returns-then-largest_step-step
 returns-then-largest_step-step c =
     let behind : let a = c.args in
-    refuse_if (not (is_framed (strip_of c.args.height c.args.width c.args.levels c.args.plane.now c.args.coverings.now) && (is_plane a.height a.width a.result.now && is_plane a.height a.width a.scratch.now))) 3
+    refuse_if (not (is_framed (strip_of c.args.height c.args.width c.args.levels c.args.plane.now c.args.coverings.now) && (is_plane a.height a.width a.res.now && is_plane a.height a.width a.scratch.now))) 3
     (refuse_if (not (is_numbered (strip_of c.args.height c.args.width c.args.levels c.args.plane.now c.args.coverings.now))) 5
     (refuse_if (not (is_ranged (strip_of c.args.height c.args.width c.args.levels c.args.plane.now c.args.coverings.now))) 6
     (refuse_if (ltb 255 a.step) 19 0)))
-    ≡ smooth_refusal (strip_of c.args.height c.args.width c.args.levels c.args.plane.now c.args.coverings.now) a.step a.result.now a.scratch.now = front_passed _ c.in_default.is (c.size_checks-sized.ensures _) in
+    ≡ smooth_refusal (strip_of c.args.height c.args.width c.args.levels c.args.plane.now c.args.coverings.now) a.step a.res.now a.scratch.now = front_passed _ c.in_default.is (c.size_checks-sized.ensures _) in
     rw (
       ← behind,
       ← c.is_framed.ensures,
@@ -118,11 +118,11 @@ returns-then-largest_step-step c =
 pub returns : goal.returns
 returns c =
     let behind : let a = c.args in
-    refuse_if (not (is_framed (strip_of c.args.height c.args.width c.args.levels c.args.plane.now c.args.coverings.now) && (is_plane a.height a.width a.result.now && is_plane a.height a.width a.scratch.now))) 3
+    refuse_if (not (is_framed (strip_of c.args.height c.args.width c.args.levels c.args.plane.now c.args.coverings.now) && (is_plane a.height a.width a.res.now && is_plane a.height a.width a.scratch.now))) 3
     (refuse_if (not (is_numbered (strip_of c.args.height c.args.width c.args.levels c.args.plane.now c.args.coverings.now))) 5
     (refuse_if (not (is_ranged (strip_of c.args.height c.args.width c.args.levels c.args.plane.now c.args.coverings.now))) 6
     (refuse_if (ltb 255 a.step) 19 0)))
-    ≡ smooth_refusal (strip_of c.args.height c.args.width c.args.levels c.args.plane.now c.args.coverings.now) a.step a.result.now a.scratch.now = front_passed _ c.in_default.is (c.size_checks-sized.ensures _) in
+    ≡ smooth_refusal (strip_of c.args.height c.args.width c.args.levels c.args.plane.now c.args.coverings.now) a.step a.res.now a.scratch.now = front_passed _ c.in_default.is (c.size_checks-sized.ensures _) in
     rw (
       ← behind,
       ← c.is_framed.ensures,

@@ -14,7 +14,7 @@ use Rattle.calibration.proofs.Cells.{values_length, values_at_law}
 use Rattle.calibration.proofs.card.card.Goals as goal
 
 pub overflow_cast-v : goal.overflow_cast-v
-overflow_cast-v c = omega (arith, c.step_at.type-inv)
+overflow_cast-v c = omega (arith, c.step_at.type_inv)
 
 pub loop-k-preserved : goal.loop-k-preserved
 loop-k-preserved c =
@@ -25,7 +25,7 @@ loop-k-preserved c =
       search rules,
       search rules,
       search rules,
-      half_store (card_values w x.s) _ k (pos 0) inv.3 (to_z_pos w64 (omega (arith, c.step_at.type-inv)) ∙ ap pos c.step_at.ensures ∙ sym (values_at_law w x.s k (omega arith))) (values_length w x.s) (omega arith),
+      half_store (card_values w x.s) _ k (pos 0) inv.3 (to_z_pos w64 (omega (arith, c.step_at.type_inv)) ∙ ap pos c.step_at.ensures ∙ sym (values_at_law w x.s k (omega arith))) (values_length w x.s) (omega arith),
     )
 
 pub returns : goal.returns

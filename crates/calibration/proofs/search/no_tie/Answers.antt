@@ -9,11 +9,11 @@ use Rattle.kernel.specs.Kernel.{at}
 use Rattle.calibration.proofs.search.no_tie.Goals as goal
 
 pub returns-then-m-covering : goal.returns-then-m-covering
-returns-then-m-covering c =
+returns-then-m-covering c v e =
     let x = c.args in
     sym (ap (λ (b : Bool). b || ltb 0 (cost_at (at v) x.m)) (eq-eqb x.m x.covering c.if-m-covering.true))
 
 pub returns : goal.returns
-returns c =
+returns c v e =
     let x = c.args in
     ap (λ (k : ℕ). ltb 0 k) (c.covering_cost-cost.ensures.1 v e) ∙ sym (ap (λ (b : Bool). b || ltb 0 (cost_at (at v) x.m)) (ne_eqb x.m x.covering c.if-m-covering.false))

@@ -5,4 +5,4 @@ use lib.Seq.{length-take-le}
 use Rattle.cutter_cases.proofs.named.show_whole.Goals as goal
 
 pub slice_bounds-show-end : goal.slice_bounds-show-end
-slice_bounds-show-end c = sym (length-take-le _ _ (omega arith))
+slice_bounds-show-end g c = sym (length-take-le _ _ (omega arith))

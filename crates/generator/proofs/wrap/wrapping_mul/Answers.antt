@@ -9,8 +9,8 @@ loop-left-init c = (omega arith, ap (λ (n : ℕ). n % 2 ^ 32) (zero-add _))
 pub loop-left-preserved : goal.loop-left-preserved
 loop-left-preserved c =
     let l = c.loop-left in
-    let s = c.wrapping_add_u32-sum.ensures in
-    (rw s (mod-lt _ (omega arith)), turned (2 ^ 32) l.sum l.part l.left c.odd_part.ensures s c.wrapping_add_u32-part.ensures ∙ l.invariant.1)
+    let s = c.wrapping_add_u32-sum.ensures.value in
+    (rw s (mod-lt _ (omega arith)), turned (2 ^ 32) l.sum l.part l.left c.odd_part.ensures s c.wrapping_add_u32-part.ensures.value ∙ l.invariant.1)
 
 pub returns : goal.returns
 returns c =

@@ -1,7 +1,6 @@
 -- `intake::reading::read_part` meets its contract. Assumes nothing.
 use mathlib.Core.Path.{subst⁻¹}
 use native.Mathlib.Nat.{le_of_lt}
-use native.Mathlib.Omega.{arith}
 use Rattle.std.specs.Io.KnownBytes.{Consumes}
 use Rattle.intake.proofs.Given.{came_in}
 use Rattle.intake.proofs.reading.read_part.Goals as goal
