@@ -143,16 +143,16 @@ fn tell_end(rt: &impl Print, differing: usize) -> io::Result<()> {
 }
 
 // Prints the line of a group without heights and widths: its name, how many cases, how many of them both accept, and whether the two agree everywhere.
-pub fn tell_list(rt: &impl Print, name: &str, t: Tally) -> io::Result<()> {
-    print!(rt; "{name}")?;
+pub fn tell_list(rt: &impl Print, name: &[u8], t: Tally) -> io::Result<()> {
+    rt.write_all(name)?;
     tell_count(rt, " ", t.cases)?;
     tell_count(rt, " accepted ", t.accepted)?;
     tell_end(rt, t.differing)
 }
 
 // The same for a group of pictures or planes, and how many of the cases and of the accepted ones were strips.
-pub fn tell(rt: &impl Print, name: &str, t: Tally) -> io::Result<()> {
-    print!(rt; "{name}")?;
+pub fn tell(rt: &impl Print, name: &[u8], t: Tally) -> io::Result<()> {
+    rt.write_all(name)?;
     tell_count(rt, " ", t.cases)?;
     tell_count(rt, " accepted ", t.accepted)?;
     tell_count(rt, ", strips ", t.strips)?;

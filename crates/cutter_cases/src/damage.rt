@@ -100,9 +100,9 @@ pub fn tell_all(rt: &impl Print) -> io::Result<()> {
     let small = damage_group(none, ask_of(4, 4), 512, 5);
     let wide = damage_group(small, ask_of(4, 8), 512, 5);
     let tall = damage_group(wide, ask_of(8, 4), 512, 5);
-    crate::seen::tell(rt, "4 by 4, 4 by 8 and 8 by 4, damaged:", tall)?;
+    crate::seen::tell(rt, b"4 by 4, 4 by 8 and 8 by 4, damaged:", tall)?;
     let square = damage_group(none, ask_of(8, 8), 14, 5);
     let wider = damage_group(square, ask_of(8, 16), 14, 5);
     let taller = damage_group(wider, ask_of(16, 8), 14, 5);
-    crate::seen::tell(rt, "8 by 8, 8 by 16 and 16 by 8, damaged:", taller)
+    crate::seen::tell(rt, b"8 by 8, 8 by 16 and 16 by 8, damaged:", taller)
 }

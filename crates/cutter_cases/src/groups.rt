@@ -122,6 +122,6 @@ fn length_group() -> Seen {
 }
 
 pub fn tell_all(rt: &impl Print) -> io::Result<()> {
-    crate::seen::tell(rt, "mixtures:", mixture_group())?;
-    crate::seen::tell(rt, "lengths:", length_group())
+    crate::seen::tell(rt, b"mixtures:", mixture_group())?;
+    crate::seen::tell(rt, b"lengths:", length_group())
 }

@@ -83,8 +83,8 @@ fn tell_count(rt: &impl Print, before: &str, count: usize) -> io::Result<()> {
 }
 
 // Prints the line of a group.
-pub fn tell(rt: &impl Print, name: &str, s: Seen) -> io::Result<()> {
-    print!(rt; "{name}")?;
+pub fn tell(rt: &impl Print, name: &[u8], s: Seen) -> io::Result<()> {
+    rt.write_all(name)?;
     tell_count(rt, " inputs ", s.inputs)?;
     tell_count(rt, ", strips ", s.strips)?;
     tell_count(rt, ", sheets ", s.sheets)?;

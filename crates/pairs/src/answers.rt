@@ -34,19 +34,21 @@ fn agree(p: Pair) -> bool {
 }
 
 // A part of what was asked: a name and its number.
-pub fn put(rt: &impl Print, name: &str, n: u64) -> io::Result<()> {
-    print!(rt; "{name}{n} ")
+pub fn put(rt: &impl Print, name: &[u8], n: u64) -> io::Result<()> {
+    rt.write_all(name)?;
+    print!(rt; "{n} ")
 }
 
-pub fn put_signed(rt: &impl Print, name: &str, v: i64) -> io::Result<()> {
-    print!(rt; "{name}{v} ")
+pub fn put_signed(rt: &impl Print, name: &[u8], v: i64) -> io::Result<()> {
+    rt.write_all(name)?;
+    print!(rt; "{v} ")
 }
 
 // Tells the answers of an entry; gives whether they agree, and those before them in the line did.
-pub fn tell(rt: &impl Print, before: bool, entry: &str, p: Pair) -> io::Result<bool> {
-    print!(rt; "{entry}")?;
-    put(rt, ": ", p.coder.refusal as u64)?;
-    put(rt, "", p.plain.refusal as u64)?;
+pub fn tell(rt: &impl Print, before: bool, entry: &[u8], p: Pair) -> io::Result<bool> {
+    rt.write_all(entry)?;
+    put(rt, b": ", p.coder.refusal as u64)?;
+    put(rt, b"", p.plain.refusal as u64)?;
     Ok(before && agree(p))
 }
 
@@ -59,11 +61,12 @@ pub fn end(rt: &impl Print, agreed: bool) -> io::Result<()> {
 }
 
 // The end of a line with one entry.
-pub fn tell_one(rt: &impl Print, entry: &str, p: Pair) -> io::Result<()> {
+pub fn tell_one(rt: &impl Print, entry: &[u8], p: Pair) -> io::Result<()> {
     end(rt, tell(rt, true, entry, p)?)
 }
 
 // The line above those of one refusal.
-pub fn heading(rt: &impl Print, name: &str) -> io::Result<()> {
-    println!(rt; "{name}")
+pub fn heading(rt: &impl Print, name: &[u8]) -> io::Result<()> {
+    rt.write_all(name)?;
+    println!(rt)
 }

@@ -7,20 +7,20 @@ use pairs::planes::{Lengths, Plane, zeros};
 use std::io;
 
 fn put_frame(rt: &impl Print, k: Plane) -> io::Result<()> {
-    put(rt, "height ", k.height as u64)?;
-    put(rt, "width ", k.width as u64)?;
-    put(rt, "levels ", k.levels as u64)?;
-    put(rt, "plane ", k.plane as u64)?;
-    put(rt, "coverings ", k.coverings as u64)
+    put(rt, b"height ", k.height as u64)?;
+    put(rt, b"width ", k.width as u64)?;
+    put(rt, b"levels ", k.levels as u64)?;
+    put(rt, b"plane ", k.plane as u64)?;
+    put(rt, b"coverings ", k.coverings as u64)
 }
 
 // Every entry that is lent a plane.
 fn tell_plane(rt: &impl Print, before: bool, words: &[u8], k: Plane) -> io::Result<bool> {
-    let r = tell(rt, before, "restore", planes::restore(words, k))?;
-    let s = tell(rt, r, "smooth", smoothed::smooth(words, k, 1))?;
-    let q = tell(rt, s, "keep", planes::keep(k, 1))?;
-    let t = tell(rt, q, "threshold", planes::threshold(k, 1))?;
-    tell(rt, t, "write", planes::write(k, 256))
+    let r = tell(rt, before, b"restore", planes::restore(words, k))?;
+    let s = tell(rt, r, b"smooth", smoothed::smooth(words, k, 1))?;
+    let q = tell(rt, s, b"keep", planes::keep(k, 1))?;
+    let t = tell(rt, q, b"threshold", planes::threshold(k, 1))?;
+    tell(rt, t, b"write", planes::write(k, 256))
 }
 
 // The same after decomposing, without a tolerance and with 1.
@@ -35,8 +35,8 @@ fn tell_frame(rt: &impl Print, words: &[u8], k: Plane) -> io::Result<()> {
         scratch: k.plane,
         picture: [0; 65],
     };
-    let d = tell(rt, true, "decompose", pictures::decompose(words, p))?;
-    let t = tell(rt, d, "within", pictures::decompose_within(words, p, 1))?;
+    let d = tell(rt, true, b"decompose", pictures::decompose(words, p))?;
+    let t = tell(rt, d, b"within", pictures::decompose_within(words, p, 1))?;
     end(rt, tell_plane(rt, t, words, k)?)
 }
 
@@ -108,7 +108,7 @@ pub fn strip_depths(rt: &impl Print, words: &[u8]) -> io::Result<()> {
 // The same before reading the plane's sheet.
 pub fn tell_sheet(rt: &impl Print, words: &[u8], k: Plane) -> io::Result<()> {
     let v = tell_plane(rt, true, words, k)?;
-    end(rt, tell(rt, v, "read", planes::read(k))?)
+    end(rt, tell(rt, v, b"read", planes::read(k))?)
 }
 
 pub fn lengths(
@@ -176,9 +176,9 @@ fn filled(
     samples: usize,
     scratch: usize,
 ) -> io::Result<()> {
-    put(rt, "numerators ", numerators as u64)?;
-    put(rt, "samples ", samples as u64)?;
-    put(rt, "scratch ", scratch as u64)?;
+    put(rt, b"numerators ", numerators as u64)?;
+    put(rt, b"samples ", samples as u64)?;
+    put(rt, b"scratch ", scratch as u64)?;
     let l = Lengths {
         numerators: numerators,
         samples: samples,
@@ -186,7 +186,7 @@ fn filled(
     };
     tell_one(
         rt,
-        "restore",
+        b"restore",
         planes::restore_into(words, zeros(4, 4, 1, 16, 1), l),
     )
 }

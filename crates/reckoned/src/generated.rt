@@ -24,11 +24,11 @@ fn both(height: usize, width: usize, start: u32, n: usize) -> Pair {
 }
 
 fn image(rt: &impl Print, height: usize, width: usize, start: u32, n: usize) -> io::Result<()> {
-    put(rt, "height ", height as u64)?;
-    put(rt, "width ", width as u64)?;
-    put(rt, "start ", start as u64)?;
-    put(rt, "samples ", n as u64)?;
-    tell_one(rt, "test image", both(height, width, start, n))
+    put(rt, b"height ", height as u64)?;
+    put(rt, b"width ", width as u64)?;
+    put(rt, b"start ", start as u64)?;
+    put(rt, b"samples ", n as u64)?;
+    tell_one(rt, b"test image", both(height, width, start, n))
 }
 
 // Document 02, wish 4: "From 0 the first sample is 966."

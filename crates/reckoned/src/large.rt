@@ -22,18 +22,18 @@ fn both_write(plane: &[i64], coverings: &[u8]) -> Pair {
 
 // The sheet of a plane that holds one value among zeros, with so many coverings.
 fn write(rt: &impl Print, at: usize, value: i64, coverings: usize) -> io::Result<()> {
-    put(rt, "height ", 512)?;
-    put(rt, "width ", 512)?;
-    put(rt, "levels ", 8)?;
-    put(rt, "coverings ", coverings as u64)?;
-    put(rt, "place ", at as u64)?;
-    put_signed(rt, "value ", value)?;
+    put(rt, b"height ", 512)?;
+    put(rt, b"width ", 512)?;
+    put(rt, b"levels ", 8)?;
+    put(rt, b"coverings ", coverings as u64)?;
+    put(rt, b"place ", at as u64)?;
+    put_signed(rt, b"value ", value)?;
     let mut plane = [0i64; 262144];
     put_value(&mut plane, at, value);
     let covers = [1u8; 21846];
     tell_one(
         rt,
-        "write",
+        b"write",
         both_write(&plane, front::bytes(&covers, coverings)),
     )
 }

@@ -9,27 +9,27 @@ use pairs::planes::{Plane, plane_of, zeros};
 use std::io;
 
 fn put_list(rt: &impl Print, l: List) -> io::Result<()> {
-    put(rt, "listed ", l.length as u64)?;
+    put(rt, b"listed ", l.length as u64)?;
     if 0 < l.length {
-        put(rt, "first ", l.first as u64)?;
+        put(rt, b"first ", l.first as u64)?;
     }
     if 1 < l.length {
-        put(rt, "second ", l.second as u64)?;
+        put(rt, b"second ", l.second as u64)?;
     }
     Ok(())
 }
 
 // Both on a picture, and the covering of its last block.
 fn last(rt: &impl Print, words: &[u8], k: Picture, tolerance: u64, l: List) -> io::Result<()> {
-    put(rt, "height ", k.height as u64)?;
-    put(rt, "levels ", k.levels as u64)?;
-    put(rt, "tolerance ", tolerance)?;
+    put(rt, b"height ", k.height as u64)?;
+    put(rt, b"levels ", k.levels as u64)?;
+    put(rt, b"tolerance ", tolerance)?;
     put_list(rt, l)?;
     let x = left_by(words, k, Way::CoderListed(tolerance), l);
     let y = left_by(words, k, Way::PlainListed(tolerance), l);
-    let agreed = tell(rt, true, "decompose", pair(x, y))?;
+    let agreed = tell(rt, true, b"decompose", pair(x, y))?;
     let covering = byte_at(&x.coverings, minus(k.coverings, 1));
-    put(rt, "last covering ", covering as u64)?;
+    put(rt, b"last covering ", covering as u64)?;
     end(rt, agreed)
 }
 
@@ -163,12 +163,12 @@ fn lend(rt: &impl Print, words: &[u8], length: usize, first: u8, second: u8) -> 
     let d = tell(
         rt,
         true,
-        "decompose",
+        b"decompose",
         decompose(words, flat(4, 1, 16, 4095), 4095, l),
     )?;
     let mut k = zeros(4, 4, 1, 16, 1);
     k.covering = first;
-    end(rt, tell(rt, d, "restore", restore(words, k, l))?)
+    end(rt, tell(rt, d, b"restore", restore(words, k, l))?)
 }
 
 // Good lists of one number, of two and of all; and an empty one, a number twice, one that falls, 0, 118, 255, and more than 117 numbers.
@@ -205,15 +205,15 @@ fn decompose_falling(
     sample: u16,
     tolerance: u64,
 ) -> io::Result<()> {
-    put(rt, "height ", height as u64)?;
-    put(rt, "levels ", levels as u64)?;
-    put(rt, "samples ", samples as u64)?;
-    put(rt, "sample ", sample as u64)?;
-    put(rt, "tolerance ", tolerance)?;
+    put(rt, b"height ", height as u64)?;
+    put(rt, b"levels ", levels as u64)?;
+    put(rt, b"samples ", samples as u64)?;
+    put(rt, b"sample ", sample as u64)?;
+    put(rt, b"tolerance ", tolerance)?;
     let l = falling();
     put_list(rt, l)?;
     let k = flat(height, levels, samples, sample);
-    tell_one(rt, "decompose", decompose(words, k, tolerance, l))
+    tell_one(rt, b"decompose", decompose(words, k, tolerance, l))
 }
 
 // Decomposing looks at the list last.
@@ -236,16 +236,16 @@ fn restore_plane(
     value: i64,
     l: List,
 ) -> io::Result<()> {
-    put(rt, "height ", height as u64)?;
-    put(rt, "levels ", levels as u64)?;
-    put(rt, "plane ", plane as u64)?;
-    put(rt, "covering ", covering as u64)?;
-    put_signed(rt, "value ", value)?;
+    put(rt, b"height ", height as u64)?;
+    put(rt, b"levels ", levels as u64)?;
+    put(rt, b"plane ", plane as u64)?;
+    put(rt, b"covering ", covering as u64)?;
+    put_signed(rt, b"value ", value)?;
     put_list(rt, l)?;
     let mut k = zeros(height, 4, levels, plane, 1);
     k.covering = covering;
     k.value = value;
-    tell_one(rt, "restore", restore(words, k, l))
+    tell_one(rt, b"restore", restore(words, k, l))
 }
 
 // Restoring looks at the list before it looks at what plane and coverings hold. Of the list that falls covering 3 is missing.

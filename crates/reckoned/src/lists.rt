@@ -19,9 +19,9 @@ fn pieces(words: &[u8], covering: u8, n: usize) -> Pair {
 }
 
 pub fn word(rt: &impl Print, words: &[u8], covering: u8, n: usize) -> io::Result<()> {
-    put(rt, "covering ", covering as u64)?;
-    put(rt, "places ", n as u64)?;
-    tell_one(rt, "word", pieces(words, covering, n))
+    put(rt, b"covering ", covering as u64)?;
+    put(rt, b"places ", n as u64)?;
+    tell_one(rt, b"word", pieces(words, covering, n))
 }
 
 pub fn places(rt: &impl Print, words: &[u8]) -> io::Result<()> {
@@ -45,19 +45,19 @@ fn both_usage(coverings: &[u8], room: usize) -> Pair {
 
 // The first n of many coverings, of which the first is the one named and the others are 1.
 fn usage(rt: &impl Print, covering: u8, n: usize, room: usize) -> io::Result<()> {
-    put(rt, "first ", covering as u64)?;
-    put(rt, "coverings ", n as u64)?;
-    put(rt, "room ", room as u64)?;
+    put(rt, b"first ", covering as u64)?;
+    put(rt, b"coverings ", n as u64)?;
+    put(rt, b"room ", room as u64)?;
     let mut coverings = [1u8; 21846];
     put_byte(&mut coverings, 0, covering as usize);
-    tell_one(rt, "usage", both_usage(front::bytes(&coverings, n), room))
+    tell_one(rt, b"usage", both_usage(front::bytes(&coverings, n), room))
 }
 
 // Falling counts, as numbers: 10 before 9; and of equal counts the lower number first. The bytes A, B, C and p are the coverings 65, 66, 67 and 112.
 pub fn usage_order(rt: &impl Print) -> io::Result<()> {
     let coverings = b"BACBACBACBACBACBACBACBACBACCp";
-    put(rt, "coverings ", 29)?;
-    tell_one(rt, "usage", both_usage(coverings, 64))?;
+    put(rt, b"coverings ", 29)?;
+    tell_one(rt, b"usage", both_usage(coverings, 64))?;
     let mut buffer = [b'?'; 64];
     let list = outcome(sheet::usage(coverings, &mut buffer));
     rt.write_all(front::bytes(&buffer, list.a))

@@ -147,22 +147,22 @@ fn smooth(words: &[u8], height: usize, width: usize, plane: &[i64], coverings: &
 }
 
 fn strip(rt: &impl Print, words: &[u8], height: usize, width: usize) -> io::Result<()> {
-    put(rt, "height ", height as u64)?;
-    put(rt, "width ", width as u64)?;
-    put(rt, "levels ", 1)?;
+    put(rt, b"height ", height as u64)?;
+    put(rt, b"width ", width as u64)?;
+    put(rt, b"levels ", 1)?;
     let mut plane = [0i64; 2048];
     let mut coverings = [0u8; 128];
     fill(height, width, &mut plane, &mut coverings);
-    let d = tell(rt, true, "decompose", decompose(words, height, width))?;
+    let d = tell(rt, true, b"decompose", decompose(words, height, width))?;
     let r = tell(
         rt,
         d,
-        "restore",
+        b"restore",
         restore(words, height, width, &plane, &coverings),
     )?;
     end(
         rt,
-        tell(rt, r, "write", write(height, width, &plane, &coverings))?,
+        tell(rt, r, b"write", write(height, width, &plane, &coverings))?,
     )
 }
 
@@ -173,17 +173,17 @@ pub fn strips(rt: &impl Print, words: &[u8]) -> io::Result<()> {
 
 // The largest step, of a picture of which 100 entries were kept.
 fn step(rt: &impl Print, words: &[u8], height: usize, width: usize) -> io::Result<()> {
-    put(rt, "height ", height as u64)?;
-    put(rt, "width ", width as u64)?;
-    put(rt, "kept ", 100)?;
-    put(rt, "step ", 255)?;
+    put(rt, b"height ", height as u64)?;
+    put(rt, b"width ", width as u64)?;
+    put(rt, b"kept ", 100)?;
+    put(rt, b"step ", 255)?;
     let mut plane = [0i64; 2048];
     let mut coverings = [0u8; 128];
     fill(height, width, &mut plane, &mut coverings);
     keeping::keep(height, width, 1, &mut plane, 100);
     tell_one(
         rt,
-        "smooth",
+        b"smooth",
         smooth(words, height, width, &plane, &coverings),
     )
 }

@@ -22,7 +22,7 @@ mod values;
 
 // The blocks of a picture are told by the number of coverings that its plane takes.
 fn examples(rt: &impl Print, words: &[u8]) -> io::Result<()> {
-    heading(rt, "examples")?;
+    heading(rt, b"examples")?;
     frames::blocks(rt, words)?;
     large::blocks(rt)?;
     frames::frame(rt, words, 6, 6, 1, 36, 1)?;
@@ -41,18 +41,18 @@ fn examples(rt: &impl Print, words: &[u8]) -> io::Result<()> {
 }
 
 fn frame(rt: &impl Print, words: &[u8]) -> io::Result<()> {
-    heading(rt, "1 side")?;
+    heading(rt, b"1 side")?;
     frames::sides(rt, words)?;
     frames::strips(rt, words)?;
     generated::sides(rt)?;
-    heading(rt, "2 depth")?;
+    heading(rt, b"2 depth")?;
     frames::depths(rt, words)?;
     frames::strip_depths(rt, words)?;
     long::strips(rt, words)
 }
 
 fn lengths(rt: &impl Print, words: &[u8]) -> io::Result<()> {
-    heading(rt, "3 frame")?;
+    heading(rt, b"3 frame")?;
     pictures::frames(rt, words)?;
     frames::planes(rt, words)?;
     frames::strip_planes(rt, words)?;
@@ -65,12 +65,12 @@ fn lengths(rt: &impl Print, words: &[u8]) -> io::Result<()> {
 }
 
 fn contents(rt: &impl Print, words: &[u8]) -> io::Result<()> {
-    heading(rt, "4 sample")?;
+    heading(rt, b"4 sample")?;
     pictures::samples(rt, words)?;
-    heading(rt, "5 tile")?;
+    heading(rt, b"5 tile")?;
     values::coverings(rt, words)?;
     lists::coverings(rt, words)?;
-    heading(rt, "6 coefficient")?;
+    heading(rt, b"6 coefficient")?;
     values::shallow(rt, words)?;
     values::deep(rt, words)?;
     values::strips(rt, words)?;
@@ -78,30 +78,30 @@ fn contents(rt: &impl Print, words: &[u8]) -> io::Result<()> {
 }
 
 fn numbers(rt: &impl Print) -> io::Result<()> {
-    heading(rt, "7 quota")?;
+    heading(rt, b"7 quota")?;
     values::quotas(rt)?;
     values::strip_quotas(rt)?;
-    heading(rt, "8 threshold")?;
+    heading(rt, b"8 threshold")?;
     values::limits(rt)
 }
 
 fn rooms(rt: &impl Print) -> io::Result<()> {
-    heading(rt, "10 tray")?;
+    heading(rt, b"10 tray")?;
     values::rooms(rt)?;
     values::strip_rooms(rt)?;
     lists::usage_rooms(rt)
 }
 
 fn limits(rt: &impl Print, words: &[u8]) -> io::Result<()> {
-    heading(rt, "13 tolerance")?;
+    heading(rt, b"13 tolerance")?;
     tolerances::limits(rt, words)?;
-    heading(rt, "14 list")?;
+    heading(rt, b"14 list")?;
     listed::limits(rt, words)?;
     listed::decomposing(rt, words)?;
     listed::restoring(rt, words)?;
-    heading(rt, "18 unlisted")?;
+    heading(rt, b"18 unlisted")?;
     listed::missing(rt, words)?;
-    heading(rt, "19 step")?;
+    heading(rt, b"19 step")?;
     smoothed::limits(rt, words)?;
     long::steps(rt, words)
 }

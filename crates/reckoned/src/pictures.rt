@@ -145,11 +145,11 @@ pub fn flat(
     scratch: usize,
     sample: u16,
 ) -> io::Result<()> {
-    put(rt, "samples ", samples as u64)?;
-    put(rt, "plane ", plane as u64)?;
-    put(rt, "coverings ", coverings as u64)?;
-    put(rt, "scratch ", scratch as u64)?;
-    put(rt, "sample ", sample as u64)?;
+    put(rt, b"samples ", samples as u64)?;
+    put(rt, b"plane ", plane as u64)?;
+    put(rt, b"coverings ", coverings as u64)?;
+    put(rt, b"scratch ", scratch as u64)?;
+    put(rt, b"sample ", sample as u64)?;
     let k = Picture {
         height: 4,
         width: 4,
@@ -160,17 +160,20 @@ pub fn flat(
         scratch: scratch,
         picture: [sample; 65],
     };
-    let d = tell(rt, true, "decompose", decompose(words, k))?;
-    end(rt, tell(rt, d, "within", decompose_within(words, k, 4095))?)
+    let d = tell(rt, true, b"decompose", decompose(words, k))?;
+    end(
+        rt,
+        tell(rt, d, b"within", decompose_within(words, k, 4095))?,
+    )
 }
 
 // Document 02, wish 5: a tie is settled by "how often a covering was chosen in all earlier blocks of the picture, level 1 first". The first two samples of the
 // first row are 1, all others 0. The first block takes covering 24; in the three others, which are flat, and at level 2, where one entry is not 0, all coverings
 // tie, and 24 has been chosen before.
 pub fn ties(rt: &impl Print, words: &[u8]) -> io::Result<()> {
-    put(rt, "height ", 8)?;
-    put(rt, "width ", 8)?;
-    put(rt, "levels ", 2)?;
+    put(rt, b"height ", 8)?;
+    put(rt, b"width ", 8)?;
+    put(rt, b"levels ", 2)?;
     let mut picture = [0u16; 65];
     put_sample(&mut picture, 0, 1);
     put_sample(&mut picture, 8, 1);
@@ -184,7 +187,7 @@ pub fn ties(rt: &impl Print, words: &[u8]) -> io::Result<()> {
         scratch: 64,
         picture: picture,
     };
-    tell_one(rt, "decompose", decompose(words, k))?;
+    tell_one(rt, b"decompose", decompose(words, k))?;
     let left = unlisted(words, k, Way::Coder);
     let mut buffer = [b'?'; 64];
     let list = outcome(sheet::usage(front::bytes(&left.coverings, 5), &mut buffer));

@@ -94,37 +94,37 @@ pub fn smooth(words: &[u8], k: Plane, step: u64) -> Pair {
 
 // The first four values, which are column 0 at height 4.
 fn put_column(rt: &impl Print, values: &[i64]) -> io::Result<()> {
-    put_signed(rt, "column 0 ", value_at(values, 0))?;
-    put_signed(rt, "", value_at(values, 1))?;
-    put_signed(rt, "", value_at(values, 2))?;
-    put_signed(rt, "", value_at(values, 3))
+    put_signed(rt, b"column 0 ", value_at(values, 0))?;
+    put_signed(rt, b"", value_at(values, 1))?;
+    put_signed(rt, b"", value_at(values, 2))?;
+    put_signed(rt, b"", value_at(values, 3))
 }
 
 // Document 02, wish 11: "The result is 16 times Y minus p times G." 4 by 4 and 1 level, covering 1, whose piece 0 is column 0. Its low-pass and its W1 are 1, all
 // else is 0: its numerators are 2 2 0 0, the gradient there is 2 4 -2 0, of which W2 is -4 and W3 is 0. Low-pass and W1 are spared, and so G is -4 4 -4 4.
 pub fn example(rt: &impl Print, words: &[u8]) -> io::Result<()> {
-    put(rt, "height ", 4)?;
-    put(rt, "width ", 4)?;
-    put(rt, "levels ", 1)?;
-    put(rt, "step ", 3)?;
+    put(rt, b"height ", 4)?;
+    put(rt, b"width ", 4)?;
+    put(rt, b"levels ", 1)?;
+    put(rt, b"step ", 3)?;
     let mut plane = [0i64; 65];
     put_value(&mut plane, 0, 1);
     put_value(&mut plane, 8, 1);
     let mut s = step_of(zeros(4, 4, 1, 16, 1), 3);
     s.plane = plane;
     let left = smoothed_by_coder(s);
-    let agreed = tell(rt, true, "smooth", both(words, s))?;
+    let agreed = tell(rt, true, b"smooth", both(words, s))?;
     put_column(rt, &left.values)?;
     end(rt, agreed)
 }
 
 fn filled(rt: &impl Print, words: &[u8], res: usize, scratch: usize) -> io::Result<()> {
-    put(rt, "result ", res as u64)?;
-    put(rt, "scratch ", scratch as u64)?;
+    put(rt, b"result ", res as u64)?;
+    put(rt, b"scratch ", scratch as u64)?;
     let mut s = step_of(zeros(4, 4, 1, 16, 1), 1);
     s.result = res;
     s.scratch = scratch;
-    tell_one(rt, "smooth", both(words, s))
+    tell_one(rt, b"smooth", both(words, s))
 }
 
 // The slices that a step fills, at 4 by 4: each of its exact length, one place less and one more.
@@ -147,16 +147,16 @@ fn limit(
     value: i64,
     step: u64,
 ) -> io::Result<()> {
-    put(rt, "height ", height as u64)?;
-    put(rt, "levels ", levels as u64)?;
-    put(rt, "plane ", plane as u64)?;
-    put(rt, "covering ", covering as u64)?;
-    put_signed(rt, "value ", value)?;
-    put(rt, "step ", step)?;
+    put(rt, b"height ", height as u64)?;
+    put(rt, b"levels ", levels as u64)?;
+    put(rt, b"plane ", plane as u64)?;
+    put(rt, b"covering ", covering as u64)?;
+    put_signed(rt, b"value ", value)?;
+    put(rt, b"step ", step)?;
     let mut k = zeros(height, 4, levels, plane, 1);
     k.covering = covering;
     k.value = value;
-    tell_one(rt, "smooth", smooth(words, k, step))
+    tell_one(rt, b"smooth", smooth(words, k, step))
 }
 
 // Steps up to the largest number; and one past the limit in calls that are refused before for another reason.

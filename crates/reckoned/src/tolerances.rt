@@ -17,15 +17,15 @@ fn rows(height: usize, part: usize, step: usize, samples: &mut [u16]) {
 
 // Both on a picture, and the covering of its last block.
 fn last(rt: &impl Print, words: &[u8], k: Picture, tolerance: u64) -> io::Result<()> {
-    put(rt, "height ", k.height as u64)?;
-    put(rt, "width ", k.width as u64)?;
-    put(rt, "levels ", k.levels as u64)?;
-    put(rt, "tolerance ", tolerance)?;
+    put(rt, b"height ", k.height as u64)?;
+    put(rt, b"width ", k.width as u64)?;
+    put(rt, b"levels ", k.levels as u64)?;
+    put(rt, b"tolerance ", tolerance)?;
     let x = unlisted(words, k, Way::CoderWithin(tolerance));
     let y = unlisted(words, k, Way::PlainWithin(tolerance));
-    let agreed = tell(rt, true, "within", pair(x, y))?;
+    let agreed = tell(rt, true, b"within", pair(x, y))?;
     let covering = byte_at(&x.coverings, minus(k.coverings, 1));
-    put(rt, "last covering ", covering as u64)?;
+    put(rt, b"last covering ", covering as u64)?;
     end(rt, agreed)
 }
 
@@ -116,11 +116,11 @@ fn flat(
     sample: u16,
     tolerance: u64,
 ) -> io::Result<()> {
-    put(rt, "height ", height as u64)?;
-    put(rt, "levels ", levels as u64)?;
-    put(rt, "samples ", samples as u64)?;
-    put(rt, "sample ", sample as u64)?;
-    put(rt, "tolerance ", tolerance)?;
+    put(rt, b"height ", height as u64)?;
+    put(rt, b"levels ", levels as u64)?;
+    put(rt, b"samples ", samples as u64)?;
+    put(rt, b"sample ", sample as u64)?;
+    put(rt, b"tolerance ", tolerance)?;
     let k = Picture {
         height: height,
         width: 4,
@@ -131,7 +131,7 @@ fn flat(
         scratch: 16,
         picture: [sample; 65],
     };
-    tell_one(rt, "within", decompose_within(words, k, tolerance))
+    tell_one(rt, b"within", decompose_within(words, k, tolerance))
 }
 
 // Tolerances up to the largest number; and one past the limit in calls that are refused before for another reason.

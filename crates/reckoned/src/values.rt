@@ -7,7 +7,7 @@ use plain_frame::safe::add;
 use std::io;
 
 fn covering(rt: &impl Print, words: &[u8], covering: u8) -> io::Result<()> {
-    put(rt, "covering ", covering as u64)?;
+    put(rt, b"covering ", covering as u64)?;
     let mut k = zeros(4, 4, 1, 16, 1);
     k.covering = covering;
     tell_sheet(rt, words, k)
@@ -25,7 +25,7 @@ pub fn coverings(rt: &impl Print, words: &[u8]) -> io::Result<()> {
 fn coefficient(
     rt: &impl Print,
     words: &[u8],
-    band: &str,
+    band: &[u8],
     frame: Plane,
     at: usize,
     value: i64,
@@ -41,7 +41,7 @@ fn coefficient(
 fn range(
     rt: &impl Print,
     words: &[u8],
-    band: &str,
+    band: &[u8],
     frame: Plane,
     at: usize,
     least: i64,
@@ -57,32 +57,32 @@ fn range(
 // column x in the plane stands at height times x plus y.
 pub fn shallow(rt: &impl Print, words: &[u8]) -> io::Result<()> {
     let k = zeros(4, 4, 1, 16, 1);
-    range(rt, words, "4 by 4 low-pass ", k, 0, 0, 16380)?;
-    range(rt, words, "4 by 4 level 1 band 1 ", k, 8, -8190, 8190)
+    range(rt, words, b"4 by 4 low-pass ", k, 0, 0, 16380)?;
+    range(rt, words, b"4 by 4 level 1 band 1 ", k, 8, -8190, 8190)
 }
 
 // 8 by 8 and 2 levels: low-pass 0 to 4,095 times 16, W of level 2 within 8 times 4,095, of level 1 within 2 times 4,095.
 pub fn deep(rt: &impl Print, words: &[u8]) -> io::Result<()> {
     let k = zeros(8, 8, 2, 64, 5);
-    range(rt, words, "8 by 8 low-pass ", k, 0, 0, 65520)?;
-    range(rt, words, "8 by 8 level 2 band 1 ", k, 16, -32760, 32760)?;
-    range(rt, words, "8 by 8 level 2 band 2 ", k, 2, -32760, 32760)?;
-    range(rt, words, "8 by 8 level 2 band 3 ", k, 18, -32760, 32760)?;
-    range(rt, words, "8 by 8 level 1 band 1 ", k, 32, -8190, 8190)?;
-    range(rt, words, "8 by 8 level 1 band 2 ", k, 4, -8190, 8190)?;
-    range(rt, words, "8 by 8 level 1 band 3 ", k, 36, -8190, 8190)
+    range(rt, words, b"8 by 8 low-pass ", k, 0, 0, 65520)?;
+    range(rt, words, b"8 by 8 level 2 band 1 ", k, 16, -32760, 32760)?;
+    range(rt, words, b"8 by 8 level 2 band 2 ", k, 2, -32760, 32760)?;
+    range(rt, words, b"8 by 8 level 2 band 3 ", k, 18, -32760, 32760)?;
+    range(rt, words, b"8 by 8 level 1 band 1 ", k, 32, -8190, 8190)?;
+    range(rt, words, b"8 by 8 level 1 band 2 ", k, 4, -8190, 8190)?;
+    range(rt, words, b"8 by 8 level 1 band 3 ", k, 36, -8190, 8190)
 }
 
 // Strips: the places that are in other bands when height and width are exchanged.
 pub fn strips(rt: &impl Print, words: &[u8]) -> io::Result<()> {
     let k = zeros(4, 8, 1, 32, 2);
-    range(rt, words, "4 by 8 low-pass ", k, 12, 0, 16380)?;
-    range(rt, words, "4 by 8 level 1 band 1 ", k, 16, -8190, 8190)?;
-    range(rt, words, "4 by 8 level 1 band 2 ", k, 2, -8190, 8190)?;
+    range(rt, words, b"4 by 8 low-pass ", k, 12, 0, 16380)?;
+    range(rt, words, b"4 by 8 level 1 band 1 ", k, 16, -8190, 8190)?;
+    range(rt, words, b"4 by 8 level 1 band 2 ", k, 2, -8190, 8190)?;
     let q = zeros(8, 4, 1, 32, 2);
-    range(rt, words, "8 by 4 low-pass ", q, 2, 0, 16380)?;
-    range(rt, words, "8 by 4 level 1 band 2 ", q, 12, -8190, 8190)?;
-    range(rt, words, "8 by 4 level 1 band 3 ", q, 20, -8190, 8190)
+    range(rt, words, b"8 by 4 low-pass ", q, 2, 0, 16380)?;
+    range(rt, words, b"8 by 4 level 1 band 2 ", q, 12, -8190, 8190)?;
+    range(rt, words, b"8 by 4 level 1 band 3 ", q, 20, -8190, 8190)
 }
 
 pub fn quota(
@@ -93,13 +93,13 @@ pub fn quota(
     plane: usize,
     quota: u64,
 ) -> io::Result<()> {
-    put(rt, "height ", height as u64)?;
-    put(rt, "width ", width as u64)?;
-    put(rt, "levels ", levels as u64)?;
-    put(rt, "quota ", quota)?;
+    put(rt, b"height ", height as u64)?;
+    put(rt, b"width ", width as u64)?;
+    put(rt, b"levels ", levels as u64)?;
+    put(rt, b"quota ", quota)?;
     tell_one(
         rt,
-        "keep",
+        b"keep",
         planes::keep(zeros(height, width, levels, plane, 0), quota),
     )
 }
@@ -127,10 +127,10 @@ pub fn strip_quotas(rt: &impl Print) -> io::Result<()> {
 }
 
 fn limit(rt: &impl Print, limit: u64) -> io::Result<()> {
-    put(rt, "limit ", limit)?;
+    put(rt, b"limit ", limit)?;
     tell_one(
         rt,
-        "threshold",
+        b"threshold",
         planes::threshold(zeros(4, 4, 1, 16, 1), limit),
     )
 }
@@ -145,13 +145,13 @@ pub fn limits(rt: &impl Print) -> io::Result<()> {
 
 // The sheet of this plane, whose first entry is the value.
 fn room(rt: &impl Print, frame: Plane, value: i64, room: usize) -> io::Result<()> {
-    put(rt, "height ", frame.height as u64)?;
-    put(rt, "width ", frame.width as u64)?;
-    put_signed(rt, "value ", value)?;
-    put(rt, "room ", room as u64)?;
+    put(rt, b"height ", frame.height as u64)?;
+    put(rt, b"width ", frame.width as u64)?;
+    put_signed(rt, b"value ", value)?;
+    put(rt, b"room ", room as u64)?;
     let mut k = frame;
     k.value = value;
-    tell_one(rt, "write", planes::write(k, room))
+    tell_one(rt, b"write", planes::write(k, room))
 }
 
 // The sheet of a plane of zeros has 79 bytes: 20 and 6, 20 and 8, 25. The line `1 0 0 0 28` has 11.

@@ -252,10 +252,10 @@ fn strips(
     width: usize,
     levels: usize,
 ) -> io::Result<()> {
-    put(rt, "height ", height as u64)?;
-    put(rt, "width ", width as u64)?;
-    put(rt, "levels ", levels as u64)?;
-    tell_list(rt, "side by side", calls(words, height, width, levels))
+    put(rt, b"height ", height as u64)?;
+    put(rt, b"width ", width as u64)?;
+    put(rt, b"levels ", levels as u64)?;
+    tell_list(rt, b"side by side", calls(words, height, width, levels))
 }
 
 // Squares, tall strips and wide ones. The widest are 4 by 256, and make one of 512.

@@ -148,9 +148,9 @@ fn both(left: Plane, right: Plane) -> Call {
 }
 
 fn put_told(rt: &impl Print, k: Plane) -> io::Result<()> {
-    put(rt, "height ", k.height as u64)?;
-    put(rt, "width ", k.width as u64)?;
-    put(rt, "levels ", k.levels as u64)
+    put(rt, b"height ", k.height as u64)?;
+    put(rt, b"width ", k.width as u64)?;
+    put(rt, b"levels ", k.levels as u64)
 }
 
 fn shapes(rt: &impl Print, left: Plane, right: Plane) -> io::Result<()> {
@@ -158,7 +158,7 @@ fn shapes(rt: &impl Print, left: Plane, right: Plane) -> io::Result<()> {
     put_told(rt, left)?;
     print!(rt; "right ")?;
     put_told(rt, right)?;
-    tell_one(rt, "join", join(both(left, right)))
+    tell_one(rt, b"join", join(both(left, right)))
 }
 
 // A strip in slices of 16 places and 1 covering, which are those of 4 by 4 and 1 level.
@@ -245,8 +245,8 @@ pub fn wide(rt: &impl Print) -> io::Result<()> {
 }
 
 fn put_lent(rt: &impl Print, plane: usize, coverings: usize) -> io::Result<()> {
-    put(rt, "plane ", plane as u64)?;
-    put(rt, "coverings ", coverings as u64)
+    put(rt, b"plane ", plane as u64)?;
+    put(rt, b"coverings ", coverings as u64)
 }
 
 // Two strips like this one but for the lengths of the slices.
@@ -260,7 +260,7 @@ fn lengths(
     plane: usize,
     coverings: usize,
 ) -> io::Result<()> {
-    put(rt, "width ", one.width as u64)?;
+    put(rt, b"width ", one.width as u64)?;
     print!(rt; "left ")?;
     put_lent(rt, left_plane, left_coverings)?;
     print!(rt; "right ")?;
@@ -279,7 +279,7 @@ fn lengths(
         plane: plane,
         coverings: coverings,
     };
-    tell_one(rt, "join", join(k))
+    tell_one(rt, b"join", join(k))
 }
 
 // 4 by 4 and 1 level: every slice of its exact length, and each with one place less and one more.
@@ -312,16 +312,16 @@ pub fn joined_frames(rt: &impl Print) -> io::Result<()> {
 
 // Strips of 4 by 4 with these coverings, where the joined plane is too short.
 fn short(rt: &impl Print, left: u8, right: u8) -> io::Result<()> {
-    put(rt, "joined plane ", 31)?;
-    put(rt, "left covering ", left as u64)?;
-    put(rt, "right covering ", right as u64)?;
+    put(rt, b"joined plane ", 31)?;
+    put(rt, b"left covering ", left as u64)?;
+    put(rt, b"right covering ", right as u64)?;
     let k = Call {
         left: covered(left, 0, 0),
         right: covered(right, 0, 0),
         plane: 31,
         coverings: 2,
     };
-    tell_one(rt, "join", join(k))
+    tell_one(rt, b"join", join(k))
 }
 
 // A strip of 4 by 4 with this covering, and this value at a place among zeros.
@@ -334,9 +334,9 @@ fn covered(covering: u8, at: usize, value: i64) -> Plane {
 }
 
 fn put_held(rt: &impl Print, k: Plane) -> io::Result<()> {
-    put(rt, "covering ", k.covering as u64)?;
-    put(rt, "place ", k.at as u64)?;
-    put_signed(rt, "value ", k.value)
+    put(rt, b"covering ", k.covering as u64)?;
+    put(rt, b"place ", k.at as u64)?;
+    put_signed(rt, b"value ", k.value)
 }
 
 fn contents(rt: &impl Print, left: Plane, right: Plane) -> io::Result<()> {
@@ -344,7 +344,7 @@ fn contents(rt: &impl Print, left: Plane, right: Plane) -> io::Result<()> {
     put_held(rt, left)?;
     print!(rt; "right ")?;
     put_held(rt, right)?;
-    tell_one(rt, "join", join(both(left, right)))
+    tell_one(rt, b"join", join(both(left, right)))
 }
 
 // Coverings that are none: in the left strip, in the right one and in both. With a joined plane that is too short it is 3, with a value out of its range 5.
@@ -421,12 +421,12 @@ fn columns_by(way: Way) -> Joined {
 // each 4 wide, and band 1 of level 1, 8 wide; row 4 goes through bands 2 and 3 of level 1, each 8 wide. Level 1 has the coverings A to D on the left and a to d
 // on the right, level 2 has E and e.
 pub fn example(rt: &impl Print) -> io::Result<()> {
-    put(rt, "height ", 8)?;
-    put(rt, "width ", 8)?;
-    put(rt, "levels ", 2)?;
+    put(rt, b"height ", 8)?;
+    put(rt, b"width ", 8)?;
+    put(rt, b"levels ", 2)?;
     let x = columns_by(Way::Coder);
     let y = columns_by(Way::Plain);
-    tell_one(rt, "join", pair(x, y))?;
+    tell_one(rt, b"join", pair(x, y))?;
     put_row(rt, &x.plane, 0)?;
     put_row(rt, &x.plane, 4)?;
     print!(rt; "coverings: ")?;

@@ -11,22 +11,22 @@ mod joins;
 fn main(rt: HostRuntime) -> io::Result<()> {
     let mut words = [0u8; 1872];
     plain::tiles::list_words(&mut words);
-    heading(&rt, "examples")?;
+    heading(&rt, b"examples")?;
     joins::example(&rt)?;
     beside::side_by_side(&rt, &words)?;
-    heading(&rt, "1 side")?;
+    heading(&rt, b"1 side")?;
     joins::sides(&rt)?;
-    heading(&rt, "2 depth")?;
+    heading(&rt, b"2 depth")?;
     joins::depths(&rt)?;
-    heading(&rt, "3 frame")?;
+    heading(&rt, b"3 frame")?;
     joins::frames(&rt)?;
     joins::joined_frames(&rt)?;
-    heading(&rt, "5 tile")?;
+    heading(&rt, b"5 tile")?;
     joins::coverings(&rt)?;
-    heading(&rt, "6 coefficient")?;
+    heading(&rt, b"6 coefficient")?;
     joins::values(&rt)?;
-    heading(&rt, "15 mismatch")?;
+    heading(&rt, b"15 mismatch")?;
     joins::unlike(&rt)?;
-    heading(&rt, "16 joined width")?;
+    heading(&rt, b"16 joined width")?;
     joins::wide(&rt)
 }

@@ -7,18 +7,18 @@ use std::io;
 mod texts;
 
 fn main(rt: HostRuntime) -> io::Result<()> {
-    heading(&rt, "1 side")?;
+    heading(&rt, b"1 side")?;
     texts::sides(&rt)?;
     texts::strips(&rt)?;
-    heading(&rt, "2 depth")?;
+    heading(&rt, b"2 depth")?;
     texts::depths(&rt)?;
     texts::strip_depths(&rt)?;
-    heading(&rt, "9 text")?;
+    heading(&rt, b"9 text")?;
     texts::names(&rt)?;
     texts::counts(&rt)?;
     texts::sizes(&rt)?;
     texts::signs(&rt)?;
-    heading(&rt, "11 sequence")?;
+    heading(&rt, b"11 sequence")?;
     texts::blocks(&rt)?;
     texts::places(&rt)?;
     texts::order(&rt)?;

@@ -42,7 +42,7 @@ fn sheet(rt: &impl Print, head: &[u8], block: &[u8], entry: &[u8]) -> io::Result
     show_line(rt, head)?;
     show_line(rt, block)?;
     show_line(rt, entry)?;
-    tell_one(rt, "read", read_sheet(head, block, entry, 16, 1))
+    tell_one(rt, b"read", read_sheet(head, block, entry, 16, 1))
 }
 
 fn head(rt: &impl Print, line: &[u8]) -> io::Result<()> {
@@ -94,10 +94,10 @@ pub fn strip_depths(rt: &impl Print) -> io::Result<()> {
 
 // Height, width and levels as they were read, 0 where the sheet is refused.
 fn told(rt: &impl Print, p: Pair) -> io::Result<()> {
-    put(rt, "height ", p.coder.a as u64)?;
-    put(rt, "width ", p.coder.b as u64)?;
-    put(rt, "levels ", p.coder.c as u64)?;
-    tell_one(rt, "read", p)
+    put(rt, b"height ", p.coder.a as u64)?;
+    put(rt, b"width ", p.coder.b as u64)?;
+    put(rt, b"levels ", p.coder.c as u64)?;
+    tell_one(rt, b"read", p)
 }
 
 // The same in slices for 4 by 8 and 1 level, which are as long as those for 8 by 4.
@@ -128,7 +128,7 @@ pub fn strip_places(rt: &impl Print) -> io::Result<()> {
 // The text as it stands.
 fn text(rt: &impl Print, text: &[u8]) -> io::Result<()> {
     show_line(rt, text)?;
-    tell_one(rt, "read", read_text(text, 16, 1))
+    tell_one(rt, b"read", read_text(text, 16, 1))
 }
 
 // The names that a sheet opened with before, and that line with the numbers of now.
@@ -224,7 +224,7 @@ fn deep_entry(rt: &impl Print, lines: &[u8]) -> io::Result<()> {
         64,
         5,
     );
-    tell_one(rt, "read", p)
+    tell_one(rt, b"read", p)
 }
 
 // Band 0 at level 2 only, no level 3, and level 1 before level 2.

@@ -19,22 +19,22 @@ use std::io;
 
 // All groups. `words` are those that the second implementation finds by its own search.
 fn tell_all(rt: &impl Print, words: &[u8]) -> io::Result<()> {
-    tell(rt, "decompose", pictures::group(words))?;
-    tell(rt, "within", pictures::within_group(words))?;
-    tell(rt, "within 0", pictures::zero_group(words))?;
-    tell(rt, "listed", pictures::listed_group(words))?;
-    tell(rt, "listed 117", pictures::full_group(words))?;
-    tell(rt, "restore", planes::group(words))?;
-    tell(rt, "restore listed", planes::listed_group(words))?;
-    tell(rt, "keep", marks::keep_group())?;
-    tell(rt, "threshold", marks::threshold_group())?;
-    tell(rt, "keep again", marks::keep_again_group())?;
-    tell(rt, "cut again", marks::cut_again_group())?;
-    tell(rt, "test image", generated::group())?;
-    tell(rt, "join", joins::group())?;
-    tell(rt, "join flaws", joins::flawed_group())?;
-    tell(rt, "window", views::group(words))?;
-    tell(rt, "window flaws", views::flawed_group(words))
+    tell(rt, b"decompose", pictures::group(words))?;
+    tell(rt, b"within", pictures::within_group(words))?;
+    tell(rt, b"within 0", pictures::zero_group(words))?;
+    tell(rt, b"listed", pictures::listed_group(words))?;
+    tell(rt, b"listed 117", pictures::full_group(words))?;
+    tell(rt, b"restore", planes::group(words))?;
+    tell(rt, b"restore listed", planes::listed_group(words))?;
+    tell(rt, b"keep", marks::keep_group())?;
+    tell(rt, b"threshold", marks::threshold_group())?;
+    tell(rt, b"keep again", marks::keep_again_group())?;
+    tell(rt, b"cut again", marks::cut_again_group())?;
+    tell(rt, b"test image", generated::group())?;
+    tell(rt, b"join", joins::group())?;
+    tell(rt, b"join flaws", joins::flawed_group())?;
+    tell(rt, b"window", views::group(words))?;
+    tell(rt, b"window flaws", views::flawed_group(words))
 }
 
 fn main(rt: HostRuntime) -> io::Result<()> {

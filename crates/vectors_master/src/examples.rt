@@ -9,10 +9,10 @@ use pairs::answers::{end, put, put_signed, tell};
 use std::io;
 
 fn put_frame(rt: &impl Print, k: Case, covering: u8) -> io::Result<()> {
-    put(rt, "height ", k.height as u64)?;
-    put(rt, "levels ", k.levels as u64)?;
-    put(rt, "plane ", k.n as u64)?;
-    put(rt, "covering ", covering as u64)
+    put(rt, b"height ", k.height as u64)?;
+    put(rt, b"levels ", k.levels as u64)?;
+    put(rt, b"plane ", k.n as u64)?;
+    put(rt, b"covering ", covering as u64)
 }
 
 // Both on a plane, and the first numerator and the first sample that the coder leaves; before they were 7 and 9.
@@ -26,9 +26,9 @@ fn tell_both(
     let m = master_of(k);
     let x = left_by(words, m, Way::Coder, plane, coverings);
     let y = left_by(words, m, Way::Plain, plane, coverings);
-    let agreed = tell(rt, true, "master", pair(x, y))?;
-    put_signed(rt, "numerator ", value_at(&x.numerators, 0))?;
-    put(rt, "sample ", sample_at(&x.samples, 0) as u64)?;
+    let agreed = tell(rt, true, b"master", pair(x, y))?;
+    put_signed(rt, b"numerator ", value_at(&x.numerators, 0))?;
+    put(rt, b"sample ", sample_at(&x.samples, 0) as u64)?;
     end(rt, agreed)
 }
 
@@ -42,9 +42,9 @@ fn example(
     value: i64,
 ) -> io::Result<()> {
     put_frame(rt, k, covering)?;
-    put_signed(rt, "low-pass ", low)?;
-    put(rt, "place ", at as u64)?;
-    put_signed(rt, "value ", value)?;
+    put_signed(rt, b"low-pass ", low)?;
+    put(rt, b"place ", at as u64)?;
+    put_signed(rt, b"value ", value)?;
     let mut plane = [0i64; 65];
     put_value(&mut plane, at, value);
     put_value(&mut plane, 0, low);

@@ -16,14 +16,14 @@ use std::io;
 
 // The examples and all groups. `words` are those that the second implementation finds by its own search.
 fn tell_all(rt: &impl Print, words: &[u8]) -> io::Result<()> {
-    heading(rt, "20 master")?;
+    heading(rt, b"20 master")?;
     examples::whole(rt, words)?;
     examples::ends(rt, words)?;
     examples::levels(rt, words)?;
     examples::order(rt, words)?;
-    heading(rt, "groups")?;
-    tell(rt, "master", groups::group(words))?;
-    tell(rt, "master flaws", groups::flawed_group(words))
+    heading(rt, b"groups")?;
+    tell(rt, b"master", groups::group(words))?;
+    tell(rt, b"master flaws", groups::flawed_group(words))
 }
 
 fn main(rt: HostRuntime) -> io::Result<()> {

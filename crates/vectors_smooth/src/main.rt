@@ -11,9 +11,9 @@ use std::io;
 
 // All groups. `words` are those that the second implementation finds by its own search.
 fn tell_all(rt: &impl Print, words: &[u8]) -> io::Result<()> {
-    tell(rt, "smooth", steps::group(words))?;
-    tell(rt, "smooth ends", steps::end_group(words))?;
-    tell(rt, "smooth flaws", steps::flawed_group(words))
+    tell(rt, b"smooth", steps::group(words))?;
+    tell(rt, b"smooth ends", steps::end_group(words))?;
+    tell(rt, b"smooth flaws", steps::flawed_group(words))
 }
 
 fn main(rt: HostRuntime) -> io::Result<()> {

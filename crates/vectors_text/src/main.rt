@@ -11,10 +11,10 @@ use std::io;
 
 // All groups. `words` are those that the second implementation finds by its own search.
 fn tell_all(rt: &impl Print, words: &[u8]) -> io::Result<()> {
-    tell(rt, "write", sheets::write_group())?;
-    tell(rt, "read", sheets::read_group())?;
-    tell_list(rt, "usage", lists::usage_group())?;
-    tell_list(rt, "word", lists::word_group(words))
+    tell(rt, b"write", sheets::write_group())?;
+    tell(rt, b"read", sheets::read_group())?;
+    tell_list(rt, b"usage", lists::usage_group())?;
+    tell_list(rt, b"word", lists::word_group(words))
 }
 
 fn main(rt: HostRuntime) -> io::Result<()> {
