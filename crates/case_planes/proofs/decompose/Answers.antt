@@ -1,7 +1,6 @@
 -- `case_planes::decompose` is safe and ends. Assumes nothing.
 use mathlib.Core.Path.{sym}
 use native.Mathlib.Omega.{arith}
-use lib.ListN.{length}
 use lib.Seq.{length-take-le}
 use Rattle.case_planes.proofs.decompose.Goals as goal
 

@@ -1,5 +1,4 @@
 -- `vectors::generated::group` is safe and ends. Assumes nothing.
-use Prim.Native.Nat.{◌-◌}
 use Rattle.vectors.proofs.generated.group.Goals as goal
 
 pub none-t-requires : goal.none-t-requires

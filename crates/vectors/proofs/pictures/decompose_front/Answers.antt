@@ -1,7 +1,6 @@
 -- `vectors::pictures::decompose_front` is safe and ends. Assumes nothing.
 use mathlib.Core.Path.{sym}
 use native.Mathlib.Omega.{arith}
-use lib.ListN.{length}
 use lib.Seq.{length-take-le}
 use Rattle.vectors.proofs.pictures.decompose_front.Goals as goal
 

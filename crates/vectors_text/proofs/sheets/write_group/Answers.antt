@@ -1,5 +1,4 @@
 -- `vectors_text::sheets::write_group` is safe and ends. Assumes nothing.
-use Prim.Native.Nat.{◌-◌}
 use Rattle.vectors_text.proofs.sheets.write_group.Goals as goal
 
 pub none-t-requires : goal.none-t-requires
