@@ -4,6 +4,8 @@
 
 use plain_frame::outcome::Outcome;
 
+mod shown;
+
 // The number of an answer; what was asked for goes to `a`, which a refused call leaves as it was.
 fn told(o: Outcome, a: &mut usize) -> u32 {
     if o.refusal == 0 {
@@ -274,4 +276,15 @@ pub extern "C" fn plain_test_image(
     samples: &mut [u16],
 ) -> u32 {
     plain::generated::test_image(height, width, start, samples)
+}
+
+#[unsafe(no_mangle)]
+pub extern "C" fn plain_show(
+    words: &[u8],
+    covering: u8,
+    steps: &[u16],
+    samples: &mut [u16],
+    found: &mut u8,
+) -> u32 {
+    shown::show(words, covering, steps, samples, found)
 }
