@@ -1,6 +1,8 @@
 -- `cutting::print_kept` meets its contract. Assumes nothing.
+use native.Mathlib.Omega.{arith}
+use Rattle.refusals.proofs.After.{counted_le}
 use Rattle.cutting.proofs.Prints.{printed}
-use Rattle.cutting.proofs.Sheets.{end_7, end-10}
+use Rattle.cutting.proofs.Sheets.{end_7, end-10, end-sheet}
 use Rattle.cutting.proofs.print_kept.Goals as goal
 
 pub returns-in_default : goal.returns-in_default

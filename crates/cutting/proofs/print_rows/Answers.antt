@@ -1,5 +1,7 @@
 -- `cutting::print_rows` meets its contract. Assumes nothing.
+use native.Mathlib.Omega.{arith}
 use lib.ListN.{drop}
+use Rattle.refusals.proofs.After.{answer_le}
 use Rattle.text.specs.Text.{parse}
 use Rattle.cutter_text.specs.Forms.{samples_form}
 use Rattle.cutting.proofs.Prints.{printed, no_rows, some_rows}

@@ -1,6 +1,8 @@
 -- `cutting::print_sheet` meets its contract. Assumes nothing.
+use native.Mathlib.Omega.{arith}
+use Rattle.refusals.proofs.After.{answer_le}
 use Rattle.cutting.proofs.Prints.{printed}
-use Rattle.cutting.proofs.Sheets.{end-4, left}
+use Rattle.cutting.proofs.Sheets.{end-4, decomposed, left}
 use Rattle.cutting.proofs.print_sheet.Goals as goal
 
 pub returns-in_default : goal.returns-in_default

@@ -1,5 +1,6 @@
 -- `joining::join_coverings` meets its contract. Assumes nothing.
 use mathlib.Core.Path.{refl, sym, ◌∙◌}
+use Prim.Native.Nat.{◌-◌}
 use native.Mathlib.Omega.{arith}
 use Rattle.joining.proofs.Lists.{part_start, room_left, room_right, part-turn, part_end}
 use Rattle.joining.proofs.join_coverings.Goals as goal

@@ -1,5 +1,6 @@
 -- `joining::join_coverings` meets its contract. Assumes nothing.
 use mathlib.Core.Path.{◌≡◌}
+use Prim.Native.Nat.{◌-◌}
 use lib.ListN.{length}
 use Rattle.joining.proofs.Lists.{Part}
 use Rattle.joining.proofs.join_coverings.Given as goal

@@ -1,7 +1,8 @@
 -- `joining::join_planes` meets its contract. Assumes nothing.
-use mathlib.Core.Path.{◌∙◌}
+use mathlib.Core.Path.{refl, ◌∙◌}
+use Prim.Native.Nat.{◌-◌}
 use native.Mathlib.Omega.{arith}
-use Rattle.joining.proofs.Halves.{half-turn, half_end}
+use Rattle.joining.proofs.Halves.{half_start, room_right, room_below, half-turn, room_low, half_end}
 use Rattle.joining.proofs.join_planes.Goals as goal
 
 pub loop-rest-preserved : goal.loop-rest-preserved

@@ -1,5 +1,6 @@
 -- `joining::join_planes` meets its contract. Assumes nothing.
 use mathlib.Core.Path.{◌≡◌}
+use Prim.Native.Nat.{◌-◌}
 use lib.ListN.{length}
 use Rattle.joining.proofs.Halves.{Half}
 use Rattle.joining.proofs.join_planes.Given as goal
