@@ -1,17 +1,17 @@
 -- A sheet's text, part by part. Assumes nothing.
-use mathlib.Core.Path.{◌≡◌, refl, sym, ap, ◌∙◌}
+use mathlib.Core.Path.{◌≡◌, refl, sym, ap, ◌∙◌, subst}
 use mathlib.Core.Bool.{Bool, true, false}
-use mathlib.Core.List.{List, [], ◌∷◌}
+use mathlib.Core.List.{List, [], ◌∷◌, ◌++◌}
 use mathlib.Core.Logic.{◌⊎◌, inl, inr}
 use Rattle.text.proofs.Read.{below}
-use Prim.Native.Nat.{ℕ, suc, ◌<◌, ◌≤◌}
+use Prim.Native.Nat.{ℕ, zero, suc, ◌+◌, ◌-◌, ◌<◌, ◌≤◌}
 use native.Mathlib.Omega.{arith}
 use borrow.Author.Tests.{eq-eqb, ne_eqb}
 use lib.Dec.{eqb}
 use lib.IntN.{ℤ}
 use lib.ListN.{length, drop, length-drop, drop_of_length-le, get_or}
 use Rattle.text.specs.Bytes.{bytes}
-use Rattle.text.specs.Text.{bad, got, row, rows, times, skip, sections, whole, parse}
+use Rattle.text.specs.Text.{Parsed, bad, got, and_then, plain, signed, row, rows, times, skip, section, sections, whole, parse, any}
 use Rattle.text.specs.Lines.{three, four, five}
 use Rattle.text.proofs.Many.{SkipRead, RowRead, RowsRead, ThreeLine, lines_read}
 use Rattle.pyramid.specs.Sides.{is_sides, is_depth}

@@ -3,11 +3,11 @@ use mathlib.Core.Path.{◌≡◌, refl, sym, ap, ◌∙◌, subst}
 use mathlib.Core.Bool.{Bool, true, false, cond, ◌&&◌}
 use mathlib.Core.List.{List, [], ◌∷◌, ◌++◌, map, append-nil}
 use mathlib.Core.Option.{Option, none, some}
-use Prim.Native.Nat.{ℕ, zero, suc, ◌-◌, ◌*◌, ◌^◌, ◌<◌, ◌≤◌}
+use Prim.Native.Nat.{ℕ, zero, suc, ◌+◌, ◌-◌, ◌*◌, ◌^◌, ◌<◌, ◌≤◌}
 use native.Mathlib.Nat.{pow-le-pow_right}
 use native.Mathlib.Omega.{arith}
-use borrow.Author.Tests.{eqb-true, eq-eqb, leb-true, le-ltb}
-use lib.Dec.{leb, eqb}
+use borrow.Author.Tests.{eqb-true, eq-eqb, leb-true, ltb-false, le-ltb}
+use lib.Dec.{leb, ltb, eqb}
 use lib.IntN.{ℤ, pos, negsuc, nat_abs}
 use lib.ListN.{length, get_or, replicate, length-replicate}
 use Rattle.integers.specs.Lists.{every}
@@ -17,7 +17,7 @@ use Rattle.text.specs.Bytes.{bytes}
 use Rattle.text.specs.Text.{rows_text, render, parse, Fits, FitsCount, FitsRows, FitsRow, FitsValue, are_sections, is_section}
 use Rattle.text.specs.Lines.{three, four, five, cell_at}
 use Rattle.text.proofs.Stamp.{three_row}
-use Rattle.text.proofs.Exact.{parse_sound, parse_text}
+use Rattle.text.proofs.Exact.{IsText, parse_sound, parse_text}
 use Rattle.pyramid.specs.Plane.{Image, all_blocks}
 use Rattle.pyramid.specs.Places.{Place, BlockPlace, plane_places, block_places, at}
 use Rattle.pyramid.specs.Sides.{is_sides, is_depth, is_plane, is_coverings}
@@ -26,12 +26,12 @@ use Rattle.pyramid.specs.Ranges.{is_low, fits_range, in_range}
 use Rattle.sheet_text.specs.Forms.{sheet_form}
 use Rattle.places.specs.Walk.{index_in}
 use Rattle.integers.specs.Zero.{is_zero}
-use Rattle.sheet_text.specs.Rows.{entry_row, block_rows, entry_rows, spread}
+use Rattle.sheet_text.specs.Rows.{entry_row, block_rows, entry_rows, covers_of, values_of, spread}
 use Rattle.sheet_text.specs.Sheet.{sheet_rows, head_of, head_part, block_part, entry_part, sheet_text, write_refusal, is_some, list_in, rows_of, height_in, width_in, levels_in, said_coverings, said_values, coverings_in, plane_in, judge, read_refusal}
 use Rattle.sheet_text.specs.Claims.{GivesBack, GivesAgain, SheetLaws}
 use Rattle.sheet_text.proofs.Each.{Each}
 use Rattle.integers.proofs.Tests.{both_true}
-use Rattle.sheet_text.proofs.Lines.{three_is, covers_back, values_back, covers_rows, values_rows, value_rows, rows_values}
+use Rattle.sheet_text.proofs.Lines.{three_is, covers_back, values_back, Rows, covers_rows, Values, values_rows, value_rows, rows_values}
 use Rattle.sheet_text.proofs.Spread.{length_spread, values_spread, spread_values}
 use Rattle.places.proofs.Sides.{Passed, passed, size_past}
 use Rattle.sheet_text.proofs.Layouts.{SmallPlace, SmallBlock, places_small, blocks_small, blocks_count, indexes, inside, onto, keys}

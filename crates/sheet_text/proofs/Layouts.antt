@@ -1,7 +1,8 @@
 -- The places of a plane: each entry once, each with a key of its own, and all numbers small. Assumes nothing.
-use mathlib.Core.Path.{◌≡◌, refl, sym, ap, ◌∙◌}
+use mathlib.Core.Path.{◌≡◌, refl, sym, ap, ◌∙◌, subst}
 use mathlib.Core.Bool.{Bool, true, false, ◌&&◌}
-use mathlib.Core.List.{List, []}
+use mathlib.Core.List.{List, [], ◌∷◌, ◌++◌}
+use mathlib.Core.Logic.{◌≢◌}
 use Prim.Native.Nat.{ℕ, zero, suc, ◌+◌, ◌-◌, ◌*◌, ◌/◌, ◌%◌, ◌<◌, ◌≤◌}
 use native.Mathlib.Nat.{div-add-mod'}
 use native.Mathlib.Omega.{arith}
@@ -13,7 +14,7 @@ use Rattle.integers.specs.Lists.{tabulate}
 use Rattle.integers.proofs.Index.{index_bound, index_place, column_row, column_col}
 use Rattle.integers.proofs.Tabulate.{length_tabulate}
 use Rattle.pyramid.specs.Plane.{Fits, top, left, halved, all_blocks, blocks}
-use Rattle.pyramid.specs.Places.{Place, BlockPlace, place_at, no_place, band_places, places_from, plane_places, blocks_from}
+use Rattle.pyramid.specs.Places.{Place, BlockPlace, place_at, no_place, band_places, places_from, plane_places, blocks_from, block_places}
 use Rattle.pyramid.proofs.Places.{All, all_append, all_band, all_bands}
 use Rattle.pyramid.proofs.Order.{plane_inside, number_of, plane_count, entry_at, number_in}
 use Rattle.places.specs.Walk.{index_in}

@@ -1,5 +1,5 @@
 -- The lines of a tetrolet sheet: what is written of coverings and of a plane of height h and width w, and what lines say. Assumes nothing.
-use Rattle.std.specs.Prelude.{Bool, cond, ◌&&◌, List, [], ◌∷◌, ℕ, eqb, ℤ, pos, get_or, set}
+use Rattle.std.specs.Prelude.{Bool, true, false, cond, ◌&&◌, List, [], ◌∷◌, ℕ, ◌+◌, ◌*◌, eqb, ℤ, pos, get_or, set}
 use Rattle.std.proofs.Math.Option.{Option, none, some}
 use Rattle.integers.specs.Zero.{is_zero}
 use Rattle.text.specs.Lines.{cell_at}

@@ -1,5 +1,5 @@
 -- The text of a sheet, what a text says, and what the entries write and read refuse. Assumes nothing.
-use Rattle.std.specs.Prelude.{Bool, true, false, not, ◌&&◌, List, [], ◌∷◌, ◌++◌, ℕ, ◌*◌, ltb, ℤ, pos, length, get_or, replicate}
+use Rattle.std.specs.Prelude.{Bool, true, false, not, ◌&&◌, List, [], ◌∷◌, ◌++◌, ℕ, ◌*◌, eqb, ltb, ℤ, pos, length, get_or, replicate}
 use Rattle.std.proofs.Math.Option.{Option, none, some}
 use Rattle.integers.specs.Lists.{every}
 use Rattle.refusals.specs.Refusal.{refuse_if}

@@ -40,7 +40,7 @@ entry_length-n-requires c =
     let P = image_of c.args.height c.args.plane.now in
     -- what was read is the entry of the plane at the present place
     let value : to_z w64 (of_z w64 (get_or c.args.plane.now c.index_of-i.result (pos 0))) ≡ at P (entry_of l.k) =
-    kept {x = get_or c.args.plane.now c.index_of-i.result (pos 0)} (omega arith) ∙ ap (λ (j : ℕ). get_or c.args.plane.now j (pos 0)) c.index_of-i.ensures.0 in
+    kept c.v-1.given ∙ ap (λ (j : ℕ). get_or c.args.plane.now j (pos 0)) c.index_of-i.ensures.0 in
     let q = passed c.args.height c.args.width c.args.levels c.requires.width_value.0 c.requires.width_value.1 in
     let t = present entry_at l.k c.loop-k-test.true l.invariant.0.row l.invariant.0.col in
     let r = range_small c.args.levels (entry_of l.k) (at P (entry_of l.k)) (omega (arith, q.few)) (omega (arith, l.invariant.0.levels, c.loop-k-test.true)) (fit_first c.args.levels P l.k t.0 t.1 l.invariant.1) in
@@ -53,7 +53,7 @@ loop-k-preserved c =
     let P = image_of c.args.height c.args.plane.now in
     let e = c.step-k.ensures.entries in
     let v = to_z w64 (of_z w64 (get_or c.args.plane.now c.index_of-i.result (pos 0))) in
-    let value : v ≡ at P (entry_of k) = kept {x = get_or c.args.plane.now c.index_of-i.result (pos 0)} (omega arith) ∙ ap (λ (j : ℕ). get_or c.args.plane.now j (pos 0)) c.index_of-i.ensures.0 in
+    let value : v ≡ at P (entry_of k) = kept c.v-1.given ∙ ap (λ (j : ℕ). get_or c.args.plane.now j (pos 0)) c.index_of-i.ensures.0 in
     let x = ap length (entries_next P k (entries_left c.step-k.result) v e value) ∙ length-append (line_of k v) (entries_from P c.step-k.result) in
     let w = c.entry_length-n.ensures in
     (c.step-k.ensures.inside, fit_rest c.args.levels P k c.step-k.result e l.invariant.1, omega (arith, ap length e, w.1, l.invariant.2), omega (arith, w.0, x, l.invariant.3))

@@ -1,7 +1,7 @@
 -- `sheet_scan::scan::look_along` meets its contract: what was found so far, and what is left. Assumes nothing.
-use mathlib.Core.Path.{◌≡◌, sym, ap, ◌∙◌, subst}
+use mathlib.Core.Path.{◌≡◌, refl, sym, ap, ◌∙◌, subst}
 use mathlib.Core.List.{◌∷◌, ◌++◌}
-use Prim.Native.Nat.{◌<◌}
+use Prim.Native.Nat.{◌+◌, ◌<◌}
 use native.Mathlib.Omega.{arith}
 use Rattle.text.specs.Lines.{five, lines_at, fives_at}
 use Rattle.text.proofs.Many.{FiveLine, RowRead, five_none, five_line, five_at_law, lines_stop, past_stop, past_next}
@@ -9,9 +9,12 @@ use Rattle.pyramid.specs.Ranges.{fits_range}
 use Rattle.places.specs.Walk.{entry_of}
 use Rattle.places.proofs.Sides.{passed}
 use Rattle.integers.specs.Zero.{is_zero}
+use Rattle.sheet_text.specs.Rows.{values_of}
+use Rattle.sheet_text.specs.Sheet.{is_some}
+use Rattle.sheet_scan.specs.Scan.{fit_along}
 use Rattle.sheet_scan.specs.Front.{walk_to, Standing, places_left}
 use Rattle.sheet_scan.proofs.Scans.{some_stop, some_left, some_skip, some_line, fit_stop, fit_done, fit_skip, fit_line}
-use Rattle.sheet_scan.proofs.Fronts.{ended, Reached, reached, line_of, value_of, others_of}
+use Rattle.sheet_scan.proofs.Fronts.{small, ended, Reached, reached, line_of, value_of, others_of}
 use Rattle.sheet_scan.proofs.scan.look_along.Goals as goal
 
 pub returns-in_default : goal.returns-in_default

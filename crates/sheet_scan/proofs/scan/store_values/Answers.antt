@@ -2,7 +2,7 @@
 -- Assumes nothing.
 use mathlib.Core.Path.{◌≡◌, refl, sym, ap, ◌∙◌, subst}
 use mathlib.Core.List.{List, ◌∷◌, ◌++◌}
-use Prim.Native.Nat.{ℕ, ◌*◌, ◌<◌}
+use Prim.Native.Nat.{ℕ, ◌+◌, ◌*◌, ◌<◌}
 use native.Mathlib.Omega.{arith}
 use lib.IntN.{ℤ, pos}
 use lib.ListN.{length, replicate, length-replicate, set, length-set, get_or}
@@ -11,12 +11,12 @@ use mir.Val.{to_z, of_z}
 use Rattle.text.specs.Lines.{five, lines_at}
 use Rattle.text.proofs.Many.{FiveLine, five_none, five_line, five_at_law, lines_stop}
 use Rattle.pyramid.specs.Places.{plane_places}
-use Rattle.places.specs.Walk.{entry_of, index_in}
+use Rattle.places.specs.Walk.{entry_of, index_in, Inside}
 use Rattle.places.proofs.Sides.{Passed, passed}
 use Rattle.sheet_scan.specs.Scan.{stored_along}
 use Rattle.sheet_scan.specs.Front.{walk_to, Standing, places_left}
 use Rattle.sheet_scan.proofs.Stored.{Filling, cleared, same_plane, all_lines, all_places, pass_others, put_line}
-use Rattle.sheet_scan.proofs.Fronts.{ended, Reached, reached, line_of, value_of, others_of}
+use Rattle.sheet_scan.proofs.Fronts.{small, walking, ahead, ended, Reached, reached, line_of, value_of, others_of}
 use Rattle.sheet_scan.proofs.scan.store_values.Goals as goal
 
 -- what the plane held before it was cleared does not matter

@@ -1,10 +1,13 @@
 -- `sheet_scan::tiles::store_covers` meets its contract: the slice is as the lines say up to the present place. Assumes nothing.
-use mathlib.Core.Path.{◌≡◌, sym, ap, ◌∙◌, subst}
+use mathlib.Core.Path.{◌≡◌, refl, sym, ap, ◌∙◌, subst}
+use mathlib.Core.Bool.{true, false}
 use mathlib.Core.List.{List, ◌∷◌}
-use Prim.Native.Nat.{ℕ, ◌+◌, ◌<◌}
+use Prim.Native.Nat.{ℕ, ◌+◌, ◌-◌, ◌<◌}
 use native.Mathlib.Omega.{arith}
-use lib.ListN.{length-map, length-set, length, get_or, drop}
-use Rattle.integers.proofs.Half.{half_store}
+use lib.ListN.{length-map, set, length-set, length, get_or, drop}
+use Rattle.integers.specs.Lists.{every}
+use Rattle.integers.specs.Lists.{half}
+use Rattle.integers.proofs.Half.{half_store, half_end}
 use Rattle.coverings.specs.Entry.{is_number}
 use Rattle.text.specs.Lines.{four, lines_at, cell_at}
 use Rattle.text.proofs.Many.{four_none, FourLine, four_line, lines_stop}

@@ -1,13 +1,16 @@
 -- `sheet_scan::tiles::tile_along` meets its contract: what was found so far, and what is left. Assumes nothing.
-use mathlib.Core.Path.{◌≡◌, sym, ◌∙◌}
-use mathlib.Core.Bool.{◌&&◌}
+use mathlib.Core.Path.{◌≡◌, refl, sym, ap, ◌∙◌}
+use mathlib.Core.Bool.{true, false, ◌&&◌}
 use native.Mathlib.Omega.{arith}
 use lib.Dec.{eqb}
+use lib.ListN.{length}
+use Rattle.coverings.specs.Entry.{is_number}
 use Rattle.text.specs.Lines.{four, lines_at}
 use Rattle.text.proofs.Many.{FourLine, four_line, four_none, four_at_law, RowRead, lines_stop, past_stop, past_next}
 use Rattle.places.specs.Walk.{block_at, block_of, blocks_left}
 use Rattle.places.proofs.Steps.{present, ended}
-use Rattle.sheet_text.specs.Rows.{is_block}
+use Rattle.sheet_text.specs.Rows.{covers_of, is_block}
+use Rattle.sheet_text.specs.Sheet.{is_some}
 use Rattle.sheet_scan.proofs.Scans.{covers_again, covers_short, covers_done, covers_left, numbers_again, numbers_done}
 use Rattle.sheet_scan.proofs.Whole.{clash}
 use Rattle.sheet_scan.proofs.tiles.tile_along.Goals as goal
