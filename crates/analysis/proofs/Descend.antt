@@ -1,7 +1,7 @@
 -- Decomposing level by level: what is known after some levels, and that one more keeps it. Assumes nothing.
 use mathlib.Core.Path.{◌≡◌, refl, sym, ap, ◌∙◌, subst, subst⁻¹, fun_ext}
 use mathlib.Core.List.{List, [], ◌++◌, map, append_assoc, append-nil}
-use Prim.Native.Nat.{ℕ, suc, ◌+◌, ◌*◌, ◌-◌, ◌/◌, ◌^◌, ◌<◌, ◌≤◌}
+use Prim.Native.Nat.{ℕ, suc, ◌+◌, ◌*◌, ◌/◌, ◌^◌, ◌<◌, ◌≤◌}
 use native.Mathlib.Nat.{zero-add, add_assoc, pow-succ', pow-le-pow_right, mul-le-mul, mul-le-mul_left, mul-le-mul_right, le_trans}
 use native.Mathlib.Omega.{arith}
 use lib.IntN.{ℤ, pos, nat_abs}
@@ -213,22 +213,19 @@ descend_covers rule R H W s plane cov counts tall wide first long d =
 
 -- ---- with a tolerance: what it allows doubles from level to level
 
-pub allowed_first : (t R : ℕ) → t * 2 ≡ t * 2 ^ suc (R - R)
-allowed_first t R = ap (λ (n : ℕ). t * 2 ^ suc n) (sym (none R))
-  where
-    none : (R : ℕ) → R - R ≡ 0
-    none R = omega arith
+pub allowed_first : (t : ℕ) → t * 2 ≡ t * 2 ^ suc 0
+allowed_first t = refl
 
-pub allowed_next : (t slack R left : ℕ) → 0 < left → left ≤ R → slack ≡ t * 2 ^ suc (R - left) → slack * 2 ≡ t * 2 ^ suc (R - (left - 1))
-allowed_next t slack R left l h e =
-    let n : suc (R - left) ≡ R - (left - 1) = omega arith in
-    ap (λ (m : ℕ). m * 2) e ∙ move t (2 ^ suc (R - left)) ∙ ap (λ (m : ℕ). t * m) (sym (pow-succ' 2 (suc (R - left)))) ∙ ap (λ (m : ℕ). t * 2 ^ suc m) n
+pub allowed_next : (t slack d : ℕ) → slack ≡ t * 2 ^ suc d → slack * 2 ≡ t * 2 ^ suc (d + 1)
+allowed_next t slack d e =
+    let n : suc d ≡ d + 1 = omega arith in
+    ap (λ (m : ℕ). m * 2) e ∙ move t (2 ^ suc d) ∙ ap (λ (m : ℕ). t * m) (sym (pow-succ' 2 (suc d))) ∙ ap (λ (m : ℕ). t * 2 ^ suc m) n
   where
     move : (a b : ℕ) → a * b * 2 ≡ a * (2 * b)
     move a b = omega arith
 
-pub allowed_small : (t slack R left : ℕ) → t ≤ 4095 → R ≤ 8 → slack ≡ t * 2 ^ suc (R - left) → slack ≤ 2 ^ 40
-allowed_small t slack R left h r e = rw e (le_trans (mul-le-mul h (pow-le-pow_right {n = 2} (omega arith) {i = suc (R - left)} {j = 9} (omega arith))) (omega arith))
+pub allowed_small : (t slack d : ℕ) → t ≤ 4095 → d ≤ 8 → slack ≡ t * 2 ^ suc d → slack ≤ 2 ^ 40
+allowed_small t slack d h r e = rw e (le_trans (mul-le-mul h (pow-le-pow_right {n = 2} (omega arith) {i = suc d} {j = 9} (omega arith))) (omega arith))
 
 -- the level's choice is that of its terms
 pub levelled_as : {n m : ℕ} (list : List ℕ) {h tall wide first : ℕ} {A : Image} {old new : List ℕ} {out : List ℤ} {counts : List ℕ} → n ≡ m → Levelled (pick_terms (among n list)) h tall wide first A old new out counts → Levelled (pick_terms (among m list)) h tall wide first A old new out counts

@@ -3,7 +3,8 @@
 // contracts rule out besides: height and width in each other's place; and a number that a refused call sets to 0.
 #![tactic(auto)]
 
-ghost use Rattle.refusals.specs.Refusal.{after_call};
+ghost use Rattle.std.specs.Prelude.{◌≡◌};
+ghost use Rattle.refusals.specs.Refusal.{answer_of, count_of, after_call};
 ghost use Rattle.sheet.specs.Write.{WriteAnswered};
 ghost use Rattle.sheet.specs.Read.{ReadAnswered};
 ghost use Rattle.sheet.specs.Usage.{UsageAnswered};
@@ -20,8 +21,22 @@ ghost use Rattle.mastering.specs.Entry.{RestoredMaster};
 ghost use Rattle.generator.specs.Generator.{Generated};
 ghost use Rattle.calibration.specs.Entry.{ShownAnswered};
 
-use refusals::{Counted, Shown};
-use sheet::Reading;
+use refusals::Refusal;
+
+// The number of an answer with a count; the count goes to `value`, which a refused call leaves as it was.
+fn tell(answer: Result<usize, Refusal>, value: &mut usize) -> u32
+    ensures number { result ≡ answer_of answer }
+    ensures count { after_call result value.new 0 ≡ count_of answer }
+    ensures told { Told result value.old value.new }
+{
+    match answer {
+        Ok(count) => {
+            *value = count;
+            0
+        }
+        Err(r) => u32::from(r),
+    }
+}
 
 // The word of a covering.
 #[unsafe(no_mangle)]
@@ -235,14 +250,10 @@ pub extern "C" fn tetrolet_write(
 ) -> u32
     ensures { WriteAnswered height width levels plane.now coverings.now buffer.old buffer.new result (after_call result length.new 0) × Told result length.old length.new }
 {
-    let answer = sheet::write(height, width, levels, plane, coverings, buffer);
-    match answer {
-        Counted::Count(k) => {
-            *length = k;
-            0
-        }
-        Counted::Refused(r) => refusals::number(r) as u32,
-    }
+    tell(
+        sheet::write(height, width, levels, plane, coverings, buffer),
+        length,
+    )
 }
 
 // Writes a usage list; its length goes to `length`, which a refused call leaves as it was.
@@ -250,14 +261,7 @@ pub extern "C" fn tetrolet_write(
 pub extern "C" fn tetrolet_usage(coverings: &[u8], buffer: &mut [u8], length: &mut usize) -> u32
     ensures { UsageAnswered coverings.now buffer.old buffer.new result (after_call result length.new 0) × Told result length.old length.new }
 {
-    let answer = sheet::usage(coverings, buffer);
-    match answer {
-        Counted::Count(k) => {
-            *length = k;
-            0
-        }
-        Counted::Refused(r) => refusals::number(r) as u32,
-    }
+    tell(sheet::usage(coverings, buffer), length)
 }
 
 // Reads a tetrolet sheet; its height, width and levels go to the references of these names, which a refused call leaves as they were.
@@ -274,17 +278,13 @@ pub extern "C" fn tetrolet_read(
 {
     let answer = sheet::read(text, plane, coverings);
     match answer {
-        Reading::Sheet {
-            height: h,
-            width: w,
-            levels: k,
-        } => {
-            *height = h;
-            *width = w;
-            *levels = k;
+        Ok(sheet) => {
+            *height = sheet.height;
+            *width = sheet.width;
+            *levels = sheet.levels;
             0
         }
-        Reading::Refused(r) => refusals::number(r) as u32,
+        Err(r) => u32::from(r),
     }
 }
 
@@ -300,14 +300,7 @@ pub extern "C" fn tetrolet_keep(
 ) -> u32
     ensures { Kept height width levels plane.old plane.new quota result (after_call result left.new 0) × Told result left.old left.new }
 {
-    let answer = keeping::keep(height, width, levels, plane, quota);
-    match answer {
-        Counted::Count(k) => {
-            *left = k;
-            0
-        }
-        Counted::Refused(r) => refusals::number(r) as u32,
-    }
+    tell(keeping::keep(height, width, levels, plane, quota), left)
 }
 
 // Cuts by a threshold; the number of tetrolet entries not zero that are left goes to `left`, which a refused call leaves as it was.
@@ -322,14 +315,10 @@ pub extern "C" fn tetrolet_threshold(
 ) -> u32
     ensures { Cut height width levels plane.old plane.new limit result (after_call result left.new 0) × Told result left.old left.new }
 {
-    let answer = keeping::threshold(height, width, levels, plane, limit);
-    match answer {
-        Counted::Count(k) => {
-            *left = k;
-            0
-        }
-        Counted::Refused(r) => refusals::number(r) as u32,
-    }
+    tell(
+        keeping::threshold(height, width, levels, plane, limit),
+        left,
+    )
 }
 
 // Writes the test image of a start.
@@ -357,14 +346,10 @@ pub extern "C" fn tetrolet_show(
 {
     let answer = calibration::show(covering, steps, samples);
     match answer {
-        Shown::Block => {
-            *found = 1;
+        Ok(shown) => {
+            *found = u8::from(shown);
             0
         }
-        Shown::Nothing => {
-            *found = 0;
-            0
-        }
-        Shown::Refused(r) => refusals::number(r) as u32,
+        Err(r) => u32::from(r),
     }
 }

@@ -1,13 +1,16 @@
 -- The block of a card by its cells, as samples and as values. Assumes nothing.
 use mathlib.Core.Path.{◌≡◌, ap, ◌∙◌}
-use mathlib.Core.List.{List, [], ◌∷◌}
-use Prim.Native.Nat.{ℕ, zero, suc, ◌+◌, ◌*◌, ◌/◌, ◌%◌, ◌^◌, ◌<◌}
+use mathlib.Core.List.{List}
+use Prim.Native.Nat.{ℕ, ◌+◌, ◌*◌, ◌-◌, ◌/◌, ◌%◌, ◌^◌, ◌<◌}
 use native.Mathlib.Omega.{arith}
 use lib.IntN.{ℤ, pos}
 use lib.ListN.{length, get_or}
 use Rattle.integers.proofs.Tabulate.{length_tabulate, get_d_tabulate}
 use Rattle.coverings.specs.Block.{name_of}
-use Rattle.coverings.specs.Words.{word_of}
+use Rattle.coverings.specs.Rule.{Number}
+use Rattle.coverings.specs.Words.{table, word_of}
+use Rattle.coverings.proofs.Flat.{place}
+use Rattle.coverings.proofs.Table.{rule}
 use Rattle.block.specs.Block.{shapes_of}
 use Rattle.block.proofs.Pick.{cost_cong}
 use Rattle.terms.specs.Terms.{cost_at}
@@ -42,14 +45,6 @@ module _ (w s : List ℕ) where
   pub values_within : ((p : ℕ) → get_or s p 0 < 2 ^ 16) → Within (2 ^ 40) (card_values w s)
   values_within h a l = rw (values_at_law a l) (omega (arith, h (name_of w a)))
 
--- four numbers of 16 bits
-pub four_below : (a b c d : ℕ) → a < 2 ^ 16 → b < 2 ^ 16 → c < 2 ^ 16 → d < 2 ^ 16 → (p : ℕ) → get_or (a ∷ b ∷ c ∷ d ∷ []) p 0 < 2 ^ 16
-four_below a b c d h i j k zero = h
-four_below a b c d h i j k (suc zero) = i
-four_below a b c d h i j k (suc (suc zero)) = j
-four_below a b c d h i j k (suc (suc (suc zero))) = k
-four_below a b c d h i j k (suc (suc (suc (suc p)))) = omega arith
-
 -- the test reads sixteen values
 pub only_cong : (n : ℕ) (v u : ℕ → ℤ) → ((a : ℕ) → a < 16 → v a ≡ u a) → only_zero n v ≡ only_zero n u
 unfolding only_zero
@@ -67,3 +62,7 @@ pub block_at : (w s : List ℕ) (A : ℕ → ℕ → ℤ) (i j : ℕ) → ((y x 
 block_at w s A i j h a l =
     let e : 4 * (a / 4) + a % 4 ≡ a = omega arith in
     h (a % 4) (a / 4) (omega arith) (omega arith) ∙ cell_at_law w s (a % 4) (a / 4) (omega arith) (omega arith) ∙ ap (card_block w s) e
+
+-- the entry of the table of words for a cell: the name of the cell's piece, one of four
+pub piece_of : (words : List ℕ) (n cell : ℕ) → words ≡ table → Number n → cell < 16 → (get_or words ((n - 1) * 16 + cell) 0 ≡ name_of (word_of n) cell) × (name_of (word_of n) cell < 4)
+piece_of words n cell e h k = (ap (λ (t : List ℕ). get_or t ((n - 1) * 16 + cell) 0) e ∙ place n cell h k, (rule.valid n h).names cell k)

@@ -1,10 +1,10 @@
 -- The checks of the entry show: the number of each call by what is found, and what is found where none refuses; what a refused and an accepted call leave.
 -- Assumes nothing.
-use mathlib.Core.Path.{◌≡◌, refl, sym}
+use mathlib.Core.Path.{◌≡◌, refl}
 use mathlib.Core.Logic.{◌↔◌}
 use mathlib.Core.Bool.{Bool, true, not}
 use mathlib.Core.List.{List, [], ◌∷◌}
-use Prim.Native.Nat.{ℕ, ◌<◌, ◌≤◌}
+use Prim.Native.Nat.{ℕ}
 use native.Mathlib.Omega.{arith}
 use borrow.Author.Tests.{eqb-true}
 use lib.Dec.{T, eqb, ltb, ltb→lt, lt→ltb, leb, leb→le, le→leb}
@@ -12,7 +12,6 @@ use lib.ListN.{length, get_or}
 use Rattle.refusals.specs.Refusal.{number_of, refuse_if}
 use Rattle.refusals.specs.declared.Refusal.{Refusal}
 use Rattle.refusals.proofs.After.{unchanged, past}
-use Rattle.integers.specs.Lists.{every}
 use Rattle.integers.proofs.Tests.{is_true, is_false, both, both_left, both_right, eq→eqb, every_at, every_of}
 use Rattle.coverings.specs.Words.{word_of}
 use Rattle.coverings.specs.Rule.{Number}
@@ -20,7 +19,7 @@ use Rattle.coverings.specs.Entry.{is_number}
 use Rattle.coverings.proofs.Checks.{number_yes, number_no, is_number_law}
 use Rattle.terms.specs.Terms.{rises}
 use Rattle.terms.proofs.Good.{rises_at, rises_all}
-use Rattle.calibration.specs.Card.{card_samples, chosen_steps, some, are_steps}
+use Rattle.calibration.specs.Card.{card_samples, chosen_steps, are_steps}
 use Rattle.calibration.specs.Entry.{show_refusal, ShownAnswered}
 use Rattle.calibration.specs.Laws.{GoodSteps}
 use Rattle.calibration.specs.Claims.{ShowChecks}
@@ -80,8 +79,9 @@ module _ (covering : ℕ) (steps samples : List ℕ) where
   refuses r e = record { number = e; found = unchanged r _ 0; slice = unchanged r _ samples }
 
   module _ (e : 0 ≡ show_refusal covering steps samples) where
-    pub shown : (a b c d : ℕ) (new : List ℕ) → a ∷ b ∷ c ∷ d ∷ [] ≡ chosen_steps covering steps → new ≡ card_samples (word_of covering) (a ∷ b ∷ c ∷ d ∷ []) → ShownAnswered covering steps samples new 0 1
-    shown a b c d new g p = record { number = e; found = rw (← g) refl; slice = rw (← g) p }
+    pub shown : (s new : List ℕ) → length s ≡ 4 → s ≡ chosen_steps covering steps → new ≡ card_samples (word_of covering) s → ShownAnswered covering steps samples new 0 1
+    shown [] new l g p = absurd (omega arith)
+    shown (x ∷ s) new l g p = record { number = e; found = rw (← g) refl; slice = rw (← g) p }
 
     pub nothing : [] ≡ chosen_steps covering steps → ShownAnswered covering steps samples samples 0 0
     nothing g = record { number = e; found = rw (← g) refl; slice = rw (← g) refl }

@@ -4,6 +4,6 @@ pub mod Calls
 pub mod Cells
 pub mod Chosen
 pub mod Gates
-pub mod Neighbours
 pub mod Others
+pub mod Steps
 pub mod Turns

@@ -4,54 +4,47 @@
 #![tactic(auto)]
 
 ghost use Rattle.std.specs.Prelude.{◌≡◌};
-ghost use Rattle.refusals.specs.Refusal.{answer_of, shown_of, flag_of};
+ghost use Rattle.refusals.specs.Refusal.{answer_of, flag_of};
 ghost use Rattle.calibration.specs.Entry.{show_refusal, ShownAnswered};
 ghost use Rattle.calibration.specs.Claims.{ShowLaws};
 
-use crate::search::Choice;
-use refusals::{Answer, Refusal, Shown};
+use refusals::Refusal;
 
 pub mod card;
 pub mod grey;
 pub mod search;
 
 // The checks of show, which looks at nothing else. Document 02, wish 14: 3 and 5, then 21.
-fn show_checks(covering: u8, steps: &[u16], samples: &[u16]) -> Answer
+fn show_checks(covering: u8, steps: &[u16], samples: &[u16]) -> Result<(), Refusal>
     ensures { answer_of result ≡ show_refusal covering steps.now samples.now }
 {
     if samples.len() != 16 {
-        return Answer::Refused(Refusal::Frame);
+        return Err(Refusal::Frame);
     }
     let numbered = (1 <= covering) & (covering <= 117);
     if !numbered {
-        return Answer::Refused(Refusal::Covering);
+        return Err(Refusal::Covering);
     }
     if !grey::are_steps(steps) {
-        return Answer::Refused(Refusal::Steps);
+        return Err(Refusal::Steps);
     }
-    Answer::Done
+    Ok(())
 }
 
 // The entry "a block that shows a covering": writes the block's sixteen samples in cell order, or answers that there is none. The contract carries the laws of
 // its calls too.
 // Three wrong answers that the contract rules out: samples that are changed where the answer is none; a block that other coverings fit too; and a later choice
 // of steps.
-pub fn show(covering: u8, steps: &[u16], samples: &mut [u16]) -> Shown
-    ensures { ShownAnswered covering steps.now samples.old samples.new (shown_of result) (flag_of result) × ShowLaws }
+pub fn show(covering: u8, steps: &[u16], samples: &mut [u16]) -> Result<bool, Refusal>
+    ensures { ShownAnswered covering steps.now samples.old samples.new (answer_of result) (flag_of result) × ShowLaws }
 {
-    let found = show_checks(covering, steps, samples);
-    if let Answer::Refused(r) = found {
-        return Shown::Refused(r);
-    }
-    let words = coverings::all_words();
-    let placements = tables::placements();
-    let fours = tables::fours();
-    let choice = search::first_choice(&words, &placements, &fours, covering, steps);
+    show_checks(covering, steps, samples)?;
+    let choice = search::first_choice(covering, steps);
     match choice {
-        Choice::Steps(a, b, c, d) => {
-            card::put_card(&words, covering, [a, b, c, d], samples);
-            Shown::Block
+        Some(s) => {
+            card::put_card(covering, s, samples);
+            Ok(true)
         }
-        Choice::Nothing => Shown::Nothing,
+        None => Ok(false),
     }
 }

@@ -3,47 +3,22 @@
 #![tactic(auto)]
 
 use cases::inputs::{Case, fill_coverings, fill_picture, fill_plane};
-use cases::safe::times;
-
-// The coder on the front parts of the slices. 1000 where they are too short, which the second implementation never gives.
-pub fn decompose(
-    k: Case,
-    samples: &[u16],
-    plane: &mut [i64],
-    coverings: &mut [u8],
-    scratch: &mut [i64],
-) -> u32 {
-    let n = k.n;
-    let b = k.b;
-    if samples.len() < n {
-        return 1000;
-    }
-    if plane.len() < n {
-        return 1000;
-    }
-    if scratch.len() < n {
-        return 1000;
-    }
-    if coverings.len() < b {
-        return 1000;
-    }
-    refusals::code(coder::decompose(
-        k.height,
-        k.width,
-        k.levels,
-        &samples[..n],
-        &mut plane[..n],
-        &mut coverings[..b],
-        &mut scratch[..n],
-    ))
-}
+use cases::safe::{first, first_mut, times};
 
 // The plane and the coverings of a picture, by the coder.
 fn of_picture(k: Case, plane: &mut [i64], coverings: &mut [u8]) {
     let mut samples = [0u16; 1024];
     let mut scratch = [0i64; 1024];
     fill_picture(k, &mut samples);
-    decompose(k, &samples, plane, coverings, &mut scratch);
+    let _ = coder::decompose(
+        k.height,
+        k.width,
+        k.levels,
+        first(&samples, k.n),
+        first_mut(plane, k.n),
+        first_mut(coverings, k.b),
+        first_mut(&mut scratch, k.n),
+    );
 }
 
 // The plane and the coverings of a case: of its picture for the kinds below 8, and of any values for those above.
@@ -58,32 +33,28 @@ pub fn fill(k: Case, plane: &mut [i64], coverings: &mut [u8]) {
 
 // Keeps the largest of a plane, cuts it, puts 0 everywhere, or leaves it as it is.
 fn cut(k: Case, plane: &mut [i64]) {
-    let which = k.seed / 4 % 8;
-    match which {
+    match k.seed / 4 % 8 {
         0 => {
-            keeping::keep(k.height, k.width, k.levels, plane, 0);
+            let _ = keeping::keep(k.height, k.width, k.levels, plane, 0);
         }
         1 => {
-            keeping::keep(k.height, k.width, k.levels, plane, 5);
+            let _ = keeping::keep(k.height, k.width, k.levels, plane, 5);
         }
         2 => {
-            keeping::threshold(k.height, k.width, k.levels, plane, 7);
+            let _ = keeping::threshold(k.height, k.width, k.levels, plane, 7);
         }
         3 => {
-            keeping::threshold(k.height, k.width, k.levels, plane, 900);
+            let _ = keeping::threshold(k.height, k.width, k.levels, plane, 900);
         }
-        4 => plain_frame::safe::clear(plane),
+        4 => plane.fill(0),
         _ => {}
     }
 }
 
 // The plane and the coverings of a case, the plane kept, cut, or left as it is, by the seed.
 pub fn fill_cut(k: Case, plane: &mut [i64], coverings: &mut [u8]) {
-    let n = k.n;
     fill(k, plane, coverings);
-    if n <= plane.len() {
-        cut(k, &mut plane[..n]);
-    }
+    cut(k, first_mut(plane, k.n));
 }
 
 // Case c of a group of planes: every height with every width, levels from none to five, every kind of plane.

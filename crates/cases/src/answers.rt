@@ -1,46 +1,68 @@
-// Answers with a count, or with height, width and levels, of the coder and of the plain second implementation.
-use crate::tally::{Verdict, judged};
-use plain_frame::outcome::Outcome;
-use refusals::Counted;
+// The answers of the coder and of the plain second implementation in one form, and what comes of one call to both.
+use crate::tally::Verdict;
+use plain_frame::refusal::Refusal;
 
-// An answer with a number as the second implementation gives it.
-pub fn outcome(c: Counted) -> Outcome {
-    match c {
-        Counted::Count(n) => Outcome {
-            refusal: 0,
-            a: n,
-            b: 0,
-            c: 0,
-        },
-        Counted::Refused(r) => Outcome {
-            refusal: refusals::number(r) as u32,
-            a: 0,
-            b: 0,
-            c: 0,
-        },
+// An answer in which a refusal is told by its number, in which the two implementations are to agree; each has an enum of its own.
+pub type Answer<T> = Result<T, u32>;
+
+// An answer of the coder.
+pub fn of_coder<T: Drop>(a: Result<T, refusals::Refusal>) -> Answer<T> {
+    a.map_err(u32::from)
+}
+
+// An answer of the second implementation.
+pub fn of_plain<T: Drop>(a: Result<T, Refusal>) -> Answer<T> {
+    a.map_err(u32::from)
+}
+
+// Both answers to a call; whether the slices hold the same after both; and whether they hold after the first what they held before.
+#[derive(Clone, Copy)]
+pub struct Pair<T> {
+    pub coder: Answer<T>,
+    pub plain: Answer<T>,
+    pub same: bool,
+    pub kept: bool,
+}
+
+// The call to both, each with slices that hold this before.
+pub fn compare<
+    R: Copy + PartialEq,
+    T: Copy,
+    F: FnOnce(&mut R) -> Answer<T>,
+    G: FnOnce(&mut R) -> Answer<T>,
+>(before: R, coder: F, plain: G) -> Pair<T>
+    requires coder { F.IsAlwaysCallable coder }
+    requires plain { G.IsAlwaysCallable plain }
+{
+    let mut x = before;
+    let mut y = before;
+    let coder = coder(&mut x);
+    let plain = plain(&mut y);
+    Pair {
+        coder,
+        plain,
+        same: x == y,
+        kept: x == before,
     }
 }
 
-// No answer: a slice was too short for its case, which counts as a difference.
-pub fn nothing(number: u32) -> Outcome {
-    Outcome {
-        refusal: number,
-        a: 0,
-        b: 0,
-        c: 0,
+impl<T: Copy + PartialEq> Pair<T> {
+    // The same, but that a refused call which did not leave the slices as they were counts as a difference.
+    pub fn strict(self) -> Pair<T> {
+        Pair {
+            same: self.same && (self.kept || self.coder.is_ok()),
+            ..self
+        }
     }
-}
 
-// The same number, and the same count, or height, width and levels.
-pub fn settled(x: Outcome, y: Outcome, same: bool) -> Verdict {
-    if x.a != y.a {
-        return Verdict::Differs;
+    // The same answer, and the same in the slices?
+    pub fn verdict(self) -> Verdict {
+        if self.coder != self.plain || !self.same {
+            Verdict::Differs
+        } else if self.coder.is_ok() {
+            Verdict::Accepted
+        } else {
+            Verdict::Refused
+        }
     }
-    if x.b != y.b {
-        return Verdict::Differs;
-    }
-    if x.c != y.c {
-        return Verdict::Differs;
-    }
-    judged(x.refusal, y.refusal, same)
 }

@@ -1,6 +1,7 @@
 // The generated inputs. A case is a number, and this module says which height, width, levels and filling it stands for, so that a difference can be found
 // again from its number alone.
-use crate::safe::{least, over, plus, put_byte, put_sample, put_value, rest, times};
+// Kept: the numbers of kinds and flaws, which the groups count through; an enum would be made of a number at each case and matched at once.
+use crate::safe::{over, plus, rest, store, times};
 
 // A height, a width, a number of levels, what the slices are filled with, and how long they are: `n` for samples and values, `b` for coverings.
 #[derive(Clone, Copy)]
@@ -45,15 +46,13 @@ pub fn side_of(n: usize) -> usize {
 
 // The number of blocks of all levels.
 fn count_blocks(height: usize, width: usize, levels: usize) -> usize {
-    let mut sum: usize = 0;
+    let mut sum = 0;
     let mut h = height / 4;
     let mut w = width / 4;
-    let mut left = levels;
-    while 0 < left {
+    for _ in 0..levels {
         sum = plus(sum, times(h, w));
-        h = h / 2;
-        w = w / 2;
-        left -= 1;
+        h /= 2;
+        w /= 2;
     }
     sum
 }
@@ -61,13 +60,13 @@ fn count_blocks(height: usize, width: usize, levels: usize) -> usize {
 // Slices hold at most 1,024 samples or values and 512 coverings: too few for a larger picture, which is then refused.
 pub fn case_of(height: usize, width: usize, levels: usize, kind: usize, seed: usize) -> Case {
     Case {
-        height: height,
-        width: width,
-        levels: levels,
-        kind: kind,
-        seed: seed,
-        n: least(1024, times(height, width)),
-        b: least(512, count_blocks(height, width, levels)),
+        height,
+        width,
+        levels,
+        kind,
+        seed,
+        n: times(height, width).min(1024),
+        b: count_blocks(height, width, levels).min(512),
     }
 }
 
@@ -84,13 +83,7 @@ pub fn case_at(c: usize, kinds: usize) -> Case {
 
 // Whether the second implementation is slow on a case: it has over 256 places and is not refused for its height or width.
 fn is_slow(k: Case) -> bool {
-    if k.n <= 256 {
-        return false;
-    }
-    if 128 < k.height {
-        return false;
-    }
-    k.width <= 128
+    256 < k.n && k.height <= 128 && k.width <= 128
 }
 
 // The same case, at most 16 by 8 or 8 by 16 in place of most of those on which the second implementation is slow.
@@ -103,21 +96,9 @@ pub fn smaller(k: Case) -> Case {
         return k;
     }
     if random % 2 == 0 {
-        return case_of(
-            least(16, k.height),
-            least(8, k.width),
-            k.levels,
-            k.kind,
-            k.seed,
-        );
+        return case_of(k.height.min(16), k.width.min(8), k.levels, k.kind, k.seed);
     }
-    case_of(
-        least(8, k.height),
-        least(16, k.width),
-        k.levels,
-        k.kind,
-        k.seed,
-    )
+    case_of(k.height.min(8), k.width.min(16), k.levels, k.kind, k.seed)
 }
 
 fn ramp(k: Case, row: usize, col: usize) -> usize {
@@ -139,9 +120,8 @@ fn stripes(row: usize, random: usize) -> usize {
 fn sample(k: Case, i: usize, random: usize) -> usize {
     let row = rest(i, k.height);
     let col = over(i, k.height);
-    let kind = k.kind;
-    match kind {
-        0 => least(4095, k.seed % 5000),
+    match k.kind {
+        0 => (k.seed % 5000).min(4095),
         1 => ramp(k, row, col),
         2 => random % 4096,
         3 => board(k, row, col),
@@ -152,14 +132,21 @@ fn sample(k: Case, i: usize, random: usize) -> usize {
     }
 }
 
-pub fn fill_picture(k: Case, samples: &mut [u16]) {
-    let mut x = next(k.seed);
-    let mut i: usize = 0;
-    while i < samples.len() {
+// Puts at each place what `cell` gives for its number and a random one.
+fn fill<V, T: TryFrom<V> + Drop, F: Fn(usize, usize) -> V>(seed: usize, s: &mut [T], cell: F)
+where
+    T::Error: Drop,
+    requires { F.IsAlwaysCallable cell }
+{
+    let mut x = next(seed);
+    for i in 0..s.len() {
         x = next(x);
-        put_sample(samples, i, sample(k, i, upper(x)));
-        i += 1;
+        store(s, i, cell(i, upper(x)));
     }
+}
+
+pub fn fill_picture(k: Case, samples: &mut [u16]) {
+    fill(k.seed, samples, |i, random| sample(k, i, random));
 }
 
 // Numbers below 2^31 as signed ones.
@@ -174,10 +161,7 @@ fn below(x: usize) -> i64 {
 
 // Whether a place is in the upper left quarter, where the low-pass band is, and the levels above the first.
 fn in_quarter(k: Case, i: usize) -> bool {
-    if times(2, rest(i, k.height)) < k.height {
-        return times(2, over(i, k.height)) < k.width;
-    }
-    false
+    times(2, rest(i, k.height)) < k.height && times(2, over(i, k.height)) < k.width
 }
 
 // A value that every place takes: at most 8,190 from zero, and not below it in the upper left quarter.
@@ -194,8 +178,7 @@ fn tame(k: Case, i: usize, random: usize) -> i64 {
 // A value of a plane, at place i: values that every place takes; few of them not zero; the greatest of the first level; those and one over it at
 // the last place; values in the upper left quarter that only the deeper levels take; and values far out of range.
 fn value(k: Case, i: usize, random: usize) -> i64 {
-    let kind = k.kind;
-    match kind {
+    match k.kind {
         8 => tame(k, i, random),
         9 => {
             if random % 5 == 0 {
@@ -218,13 +201,7 @@ fn value(k: Case, i: usize, random: usize) -> i64 {
 }
 
 pub fn fill_plane(k: Case, plane: &mut [i64]) {
-    let mut x = next(k.seed);
-    let mut i: usize = 0;
-    while i < plane.len() {
-        x = next(x);
-        put_value(plane, i, value(k, i, upper(x)));
-        i += 1;
-    }
+    fill(k.seed, plane, |i, random| value(k, i, random));
 }
 
 // A covering, 1 to 117; at every fourth seed 0 to 118, which an entry refuses where 0 or 118 is among them.
@@ -236,11 +213,5 @@ fn covering(k: Case, random: usize) -> usize {
 }
 
 pub fn fill_coverings(k: Case, coverings: &mut [u8]) {
-    let mut x = next(plus(k.seed, 1));
-    let mut i: usize = 0;
-    while i < coverings.len() {
-        x = next(x);
-        put_byte(coverings, i, covering(k, upper(x)));
-        i += 1;
-    }
+    fill(plus(k.seed, 1), coverings, |_, random| covering(k, random));
 }

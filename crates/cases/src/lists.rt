@@ -2,8 +2,9 @@
 // 4 an empty one; sixteen of which 5 two have changed places, 6 one stands twice, 7 the first is 0, 8 the last is 118, 9 the last is 255; 10 the numbers 1 to
 // 118; 11 as many as 300 numbers. Those made for coverings: 12 the coverings used, 13 those and covering 1, 14 those used but the last block's, 15 all 117 but
 // the first block's.
+// Kept: the numbers of kinds and flaws, which the groups count through; an enum would be made of a number at each case and matched at once.
 use crate::inputs::mixed;
-use crate::safe::{byte_at, minus, plus, put_byte, times};
+use crate::safe::{first, load, plus, store, times};
 
 fn length_of(kind: usize) -> usize {
     match kind {
@@ -39,7 +40,7 @@ fn exchanged(seed: usize, i: usize) -> usize {
 // A place and the next one the same.
 fn doubled(seed: usize, i: usize) -> usize {
     if seed / 8 % 16 < i {
-        return sixteen(seed, minus(i, 1));
+        return sixteen(seed, i.saturating_sub(1));
     }
     sixteen(seed, i)
 }
@@ -70,54 +71,38 @@ fn entry(kind: usize, seed: usize, i: usize) -> usize {
 
 // Fills a slice of 300 places, of which `lent` gives the list.
 pub fn fill_list(kind: usize, seed: usize, list: &mut [u8]) {
-    let mut i: usize = 0;
-    while i < list.len() {
-        put_byte(list, i, entry(kind, seed, i));
-        i += 1;
+    for i in 0..list.len() {
+        store(list, i, entry(kind, seed, i));
     }
 }
 
 // The list of this kind, where a slice was filled with it.
 pub fn lent(kind: usize, list: &[u8]) -> &[u8] {
-    first(length_of(kind), list)
+    first(list, length_of(kind))
 }
 
 fn is_used(coverings: &[u8], n: usize) -> bool {
-    let mut i: usize = 0;
-    while i < coverings.len() {
-        if byte_at(coverings, i) as usize == n {
-            return true;
-        }
-        i += 1;
-    }
-    false
+    coverings.iter().any(|c| *c as usize == n)
 }
 
 // Whether the list of a kind from 12 on holds this number.
 fn is_wanted(kind: usize, coverings: &[u8], n: usize) -> bool {
     match kind {
         12 => is_used(coverings, n),
-        13 => (n == 1) | is_used(coverings, n),
-        14 => (n != byte_at(coverings, minus(coverings.len(), 1)) as usize) & is_used(coverings, n),
-        _ => n != byte_at(coverings, 0) as usize,
+        13 => n == 1 || is_used(coverings, n),
+        14 => coverings.last().is_none_or(|c| *c as usize != n) && is_used(coverings, n),
+        _ => coverings.first().is_none_or(|c| *c as usize != n),
     }
 }
 
 // Fills the front of a slice with a list for these coverings, of a kind from 12 on, and gives its length. The next number goes over one that is not wanted.
 pub fn fill_used(kind: usize, coverings: &[u8], list: &mut [u8]) -> usize {
     let mut length: usize = 0;
-    let mut n: usize = 1;
-    while n <= 117 {
-        put_byte(list, length, n);
+    for n in 1..118 {
+        store(list, length, n);
         if is_wanted(kind, coverings, n) {
             length = plus(length, 1);
         }
-        n += 1;
     }
     length
-}
-
-// The first `n` places.
-pub fn first(n: usize, list: &[u8]) -> &[u8] {
-    if n <= list.len() { &list[..n] } else { list }
 }

@@ -5,10 +5,11 @@
 //
 // The flaws: 0 to 16 are those of a strip. Of the numerators: 17 they are one place too short, 18 one too long. Of the samples: 19 and 20 the same. Of the
 // scratch: 21 and 22 the same.
+// Kept: the numbers of kinds and flaws, which the groups count through; an enum would be made of a number at each case and matched at once.
 use crate::inputs::{Case, case_of, mixed, side_of};
-use crate::safe::{least, minus, plus, put_byte, put_value, rest, times, value_at};
+use crate::safe::{load, plus, rest, store, times};
 use crate::strips::flawed_strip;
-use plain_frame::frame::{Extent, index_of, place, power};
+use plain_frame::frame::{Frame, power};
 use plain_frame::safe::{add, opposite, signed};
 
 // What is told of a picture, with the lengths of its slices; and the lengths of those that restoring fills.
@@ -34,7 +35,7 @@ pub fn master_of(k: Case) -> Master {
 pub fn good_case_at(c: usize) -> Case {
     let row = c % 4;
     let col = c / 4 % 4;
-    let most = plus(least(row, col), 1);
+    let most = plus(row.min(col), 1);
     case_of(
         side_of(row),
         side_of(col),
@@ -45,24 +46,23 @@ pub fn good_case_at(c: usize) -> Case {
 }
 
 // The call with a flaw, but for what the slices hold.
-pub fn flawed(m: Master, flaw: usize) -> Master {
-    let mut t = m;
-    t.picture = flawed_strip(m.picture, flaw);
+pub fn flawed(mut m: Master, flaw: usize) -> Master {
+    m.picture = flawed_strip(m.picture, flaw);
     match flaw {
-        17 => t.numerators = minus(m.numerators, 1),
-        18 => t.numerators = plus(m.numerators, 1),
-        19 => t.samples = minus(m.samples, 1),
-        20 => t.samples = plus(m.samples, 1),
-        21 => t.scratch = minus(m.scratch, 1),
-        22 => t.scratch = plus(m.scratch, 1),
+        17 => m.numerators = m.numerators.saturating_sub(1),
+        18 => m.numerators = plus(m.numerators, 1),
+        19 => m.samples = m.samples.saturating_sub(1),
+        20 => m.samples = plus(m.samples, 1),
+        21 => m.scratch = m.scratch.saturating_sub(1),
+        22 => m.scratch = plus(m.scratch, 1),
         _ => {}
     }
-    t
+    m
 }
 
 // 4^n.
 fn unit(n: usize) -> i64 {
-    signed(power(times(2, n)) as u64)
+    signed(power(times(2, n)))
 }
 
 // By how much an entry of this level is changed.
@@ -80,20 +80,17 @@ fn added(which: usize, level: usize, levels: usize) -> i64 {
 
 // An entry by the seed.
 fn change_entry(k: Case, which: usize, plane: &mut [i64]) {
-    let extent = Extent {
-        height: k.height,
-        width: k.width,
-    };
-    let p = place(extent, k.levels, rest(mixed(k.seed), k.n));
-    let i = index_of(extent, p);
-    let v = add(value_at(plane, i), added(which, p.level, k.levels));
-    put_value(plane, i, v);
+    let frame = Frame::new(k.height, k.width, k.levels);
+    let p = frame.place(rest(mixed(k.seed), k.n));
+    let i = frame.extent.index_of(p);
+    let v = add(load(plane, i), added(which, p.level, k.levels));
+    store(plane, i, v);
 }
 
 // Changes the plane of a case, or its coverings.
 pub fn change(k: Case, which: usize, plane: &mut [i64], coverings: &mut [u8]) {
     if which == 7 {
-        put_byte(coverings, rest(k.seed, k.b), mixed(k.seed) % 117 + 1);
+        store(coverings, rest(k.seed, k.b), mixed(k.seed) % 117 + 1);
     } else {
         change_entry(k, which, plane);
     }

@@ -1,69 +1,46 @@
 // Sums and places that cannot fail: outside the range that the program needs, the answer is 0 and a store does nothing.
 
 pub fn plus(a: usize, b: usize) -> usize {
-    if a < 1000000000 {
-        if b < 1000000000 {
-            return a + b;
-        }
+    if a < 1000000000 && b < 1000000000 {
+        a + b
+    } else {
+        0
     }
-    0
-}
-
-pub fn minus(a: usize, b: usize) -> usize {
-    if b <= a { a - b } else { 0 }
 }
 
 pub fn times(a: usize, b: usize) -> usize {
-    if a < 1000000 {
-        if b < 1000000 {
-            return a * b;
-        }
-    }
-    0
+    if a < 1000000 && b < 1000000 { a * b } else { 0 }
 }
 
 pub fn rest(a: usize, b: usize) -> usize {
-    if 0 < b { a % b } else { 0 }
+    a.checked_rem(b).unwrap_or(0)
 }
 
 pub fn over(a: usize, b: usize) -> usize {
-    if 0 < b { a / b } else { 0 }
+    a.checked_div(b).unwrap_or(0)
 }
 
-pub fn least(a: usize, b: usize) -> usize {
-    if a < b { a } else { b }
+// What stands at a place.
+pub fn load<T: Copy + Default>(s: &[T], i: usize) -> T {
+    s.get(i).copied().unwrap_or_default()
 }
 
-pub fn byte_at(s: &[u8], i: usize) -> u8 {
-    if i < s.len() { s[i] } else { 0 }
-}
-
-pub fn put_byte(s: &mut [u8], i: usize, v: usize) {
-    if i < s.len() {
-        if v < 256 {
-            s[i] = v as u8;
-        }
+// Puts a number at a place, where the place can hold it.
+pub fn store<V, T: TryFrom<V> + Drop>(s: &mut [T], i: usize, v: V)
+where
+    T::Error: Drop,
+{
+    if let (Some(place), Ok(v)) = (s.get_mut(i), T::try_from(v)) {
+        *place = v;
     }
 }
 
-pub fn put_sample(s: &mut [u16], i: usize, v: usize) {
-    if i < s.len() {
-        if v < 65536 {
-            s[i] = v as u16;
-        }
-    }
+// The first n places, or the whole of a shorter slice.
+pub fn first<T>(s: &[T], n: usize) -> &[T] {
+    s.get(..n).unwrap_or(s)
 }
 
-pub fn put_value(s: &mut [i64], i: usize, v: i64) {
-    if i < s.len() {
-        s[i] = v;
-    }
-}
-
-pub fn value_at(s: &[i64], i: usize) -> i64 {
-    if i < s.len() { s[i] } else { 0 }
-}
-
-pub fn sample_at(s: &[u16], i: usize) -> u16 {
-    if i < s.len() { s[i] } else { 0 }
+pub fn first_mut<T>(s: &mut [T], n: usize) -> &mut [T] {
+    let end = n.min(s.len());
+    &mut s[..end]
 }

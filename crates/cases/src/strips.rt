@@ -6,8 +6,9 @@
 //
 // The flaws of the joined slices: 0 none, 1 a plane one place too short, 2 one too long, 3 as long as that of one strip, 4 one covering too few, 5 one too
 // many, 6 as many as those of one strip. 7 tells of both strips that they are 512 wide, so that the joined one would be too wide.
+// Kept: the numbers of kinds and flaws, which the groups count through; an enum would be made of a number at each case and matched at once.
 use crate::inputs::{Case, case_of, mixed};
-use crate::safe::{minus, plus, put_byte, put_value, times};
+use crate::safe::{plus, store, times};
 
 // What is told of two strips, with the lengths of their slices, and the lengths of the joined ones: `n` for the plane, `b` for the coverings.
 #[derive(Clone, Copy)]
@@ -21,8 +22,8 @@ pub struct Join {
 // The joined slices hold as much as those of two strips like the left one.
 fn join_of(left: Case, right: Case) -> Join {
     Join {
-        left: left,
-        right: right,
+        left,
+        right,
         n: times(2, left.n),
         b: times(2, left.b),
     }
@@ -82,33 +83,31 @@ pub fn small_join_at(c: usize) -> Join {
 }
 
 // Flaws of what is told of a strip.
-fn told(k: Case, flaw: usize) -> Case {
-    let mut t = k;
+fn told(mut k: Case, flaw: usize) -> Case {
     match flaw {
-        1 => t.height = 12,
-        2 => t.height = 9223372036854775808,
-        3 => t.width = 9223372036854775808,
-        4 => t.levels = 0,
-        5 => t.levels = 9,
-        6 => t.height = times(2, k.height),
-        7 => t.width = times(2, k.width),
-        8 => t.levels = minus(k.levels, 1),
+        1 => k.height = 12,
+        2 => k.height = 9223372036854775808,
+        3 => k.width = 9223372036854775808,
+        4 => k.levels = 0,
+        5 => k.levels = 9,
+        6 => k.height = times(2, k.height),
+        7 => k.width = times(2, k.width),
+        8 => k.levels = k.levels.saturating_sub(1),
         _ => {}
     }
-    t
+    k
 }
 
 // Flaws of its slices.
-fn lent(k: Case, flaw: usize) -> Case {
-    let mut t = k;
+fn lent(mut k: Case, flaw: usize) -> Case {
     match flaw {
-        9 => t.n = minus(k.n, 1),
-        10 => t.n = plus(k.n, 1),
-        11 => t.b = minus(k.b, 1),
-        12 => t.b = plus(k.b, 1),
+        9 => k.n = k.n.saturating_sub(1),
+        10 => k.n = plus(k.n, 1),
+        11 => k.b = k.b.saturating_sub(1),
+        12 => k.b = plus(k.b, 1),
         _ => {}
     }
-    t
+    k
 }
 
 // The strip with a flaw, but for what its slices hold.
@@ -119,41 +118,40 @@ pub fn flawed_strip(k: Case, flaw: usize) -> Case {
 // Flaws of what they hold.
 pub fn spoil(k: Case, flaw: usize, plane: &mut [i64], coverings: &mut [u8]) {
     match flaw {
-        13 => put_byte(coverings, minus(k.b, 1), 0),
-        14 => put_byte(coverings, 0, 118),
-        15 => put_value(plane, 0, -1),
-        16 => put_value(plane, minus(k.n, 1), 8191),
+        13 => store(coverings, k.b.saturating_sub(1), 0),
+        14 => store(coverings, 0, 118),
+        15 => store(plane, 0, -1),
+        16 => store(plane, k.n.saturating_sub(1), 8191),
         _ => {}
     }
 }
 
 // Flaws of the joined slices.
-fn room(j: Join, flaw: usize) -> Join {
-    let mut t = j;
+fn room(mut j: Join, flaw: usize) -> Join {
     match flaw {
-        1 => t.n = minus(j.n, 1),
-        2 => t.n = plus(j.n, 1),
-        3 => t.n = j.n / 2,
-        4 => t.b = minus(j.b, 1),
-        5 => t.b = plus(j.b, 1),
-        6 => t.b = j.b / 2,
+        1 => j.n = j.n.saturating_sub(1),
+        2 => j.n = plus(j.n, 1),
+        3 => j.n = j.n / 2,
+        4 => j.b = j.b.saturating_sub(1),
+        5 => j.b = plus(j.b, 1),
+        6 => j.b = j.b / 2,
         _ => {}
     }
-    t
+    j
 }
 
-fn wide(k: Case, flaw: usize) -> Case {
-    let mut t = k;
+fn wide(mut k: Case, flaw: usize) -> Case {
     if flaw == 7 {
-        t.width = 512;
+        k.width = 512;
     }
-    t
+    k
 }
 
 // The call with a flaw of each strip and one of the joined slices, but for what the slices hold.
 pub fn flawed(j: Join, left: usize, right: usize, whole: usize) -> Join {
-    let mut t = room(j, whole);
-    t.left = wide(flawed_strip(j.left, left), whole);
-    t.right = wide(flawed_strip(j.right, right), whole);
-    t
+    Join {
+        left: wide(flawed_strip(j.left, left), whole),
+        right: wide(flawed_strip(j.right, right), whole),
+        ..room(j, whole)
+    }
 }

@@ -4,10 +4,10 @@
 #![tactic(auto)]
 
 ghost use Rattle.std.specs.Prelude.{◌≡◌};
-ghost use Rattle.refusals.specs.Refusal.{answer_of, counted_of, count_of};
+ghost use Rattle.refusals.specs.Refusal.{answer_of, count_of};
 ghost use Rattle.chain.specs.Chain.{chain_refusal, Chained};
 
-use refusals::{Answer, Counted, Refusal};
+use refusals::Refusal;
 
 // The checks of the chain, all before its first call: those of decompose_listed, with restore's slices too, then the quota.
 fn chain_checks(
@@ -23,34 +23,31 @@ fn chain_checks(
     numerators: &[i64],
     restored: &[u16],
     scratch: &[i64],
-) -> Answer
+) -> Result<(), Refusal>
     ensures { answer_of result ≡ chain_refusal height width levels tolerance quota samples.now list.now plane.now coverings.now numerators.now restored.now scratch.now }
 {
-    let sized = places::checks::size_checks(height, width, levels);
-    if let Answer::Refused(r) = sized {
-        return Answer::Refused(r);
-    }
+    places::checks::size_checks(height, width, levels)?;
     let area = width * height;
     let blocks = places::checks::count_blocks(levels, height, width);
     let framed = ((samples.len() == area)
         & ((plane.len() == area) & ((coverings.len() == blocks) & (scratch.len() == area))))
         & ((numerators.len() == area) & (restored.len() == area));
     if !framed {
-        return Answer::Refused(Refusal::Frame);
+        return Err(Refusal::Frame);
     }
     if !coder::all_samples(samples) {
-        return Answer::Refused(Refusal::Sample);
+        return Err(Refusal::Sample);
     }
     if terms::largest_tolerance() < tolerance {
-        return Answer::Refused(Refusal::Tolerance);
+        return Err(Refusal::Tolerance);
     }
     if !listing::is_list(list) {
-        return Answer::Refused(Refusal::Listing);
+        return Err(Refusal::Listing);
     }
     if sifting::ranks::most_entries(height as u32, width as u32, levels as u32) < quota {
-        return Answer::Refused(Refusal::Quota);
+        return Err(Refusal::Quota);
     }
-    Answer::Done
+    Ok(())
 }
 
 // Decomposes, keeps and restores; gives the number of tetrolet entries left.
@@ -68,22 +65,19 @@ pub fn decompose_keep_restore(
     numerators: &mut [i64],
     restored: &mut [u16],
     scratch: &mut [i64],
-) -> Counted
-    ensures { Chained height width levels tolerance quota samples.now list.now plane.old plane.new coverings.old coverings.new numerators.old numerators.new restored.old restored.new scratch.old scratch.new (counted_of result) (count_of result) }
+) -> Result<usize, Refusal>
+    ensures { Chained height width levels tolerance quota samples.now list.now plane.old plane.new coverings.old coverings.new numerators.old numerators.new restored.old restored.new scratch.old scratch.new (answer_of result) (count_of result) }
 {
-    let found = chain_checks(
+    chain_checks(
         height, width, levels, tolerance, quota, samples, list, plane, coverings, numerators,
         restored, scratch,
-    );
-    if let Answer::Refused(r) = found {
-        return Counted::Refused(r);
-    }
+    )?;
     // None of the three is refused after these checks.
-    listing::decompose_listed(
+    let _ = listing::decompose_listed(
         height, width, levels, tolerance, samples, list, plane, coverings, scratch,
     );
     let kept = keeping::keep(height, width, levels, plane, quota);
-    coder::restore(
+    let _ = coder::restore(
         height, width, levels, plane, coverings, numerators, restored, scratch,
     );
     kept

@@ -4,7 +4,6 @@ use mathlib.Core.Bool.{Bool, true, false, cond}
 use mathlib.Core.List.{List}
 use Prim.Native.Nat.{ℕ, suc, ◌+◌, ◌-◌, ◌≤◌, ◌<◌}
 use native.Mathlib.Omega.{arith}
-use borrow.Author.Tests.{lt-ltb, le-ltb, eq-eqb, ne_eqb}
 use lib.IntN.{ℤ}
 use lib.ListN.{get_or}
 use Rattle.coverings.specs.Words.{word_of}
@@ -17,20 +16,6 @@ use Rattle.costing.specs.Costs.{spreads, cost_from}
 use Rattle.choosing.specs.Order.{precedes}
 use Rattle.costing.proofs.Placements.{cost_from_law}
 use Rattle.counts.proofs.Counts.{count_at}
-
--- ---- the order of candidates
-module _ (cost count least often : ℕ) where
-  pub cheaper : cost < least → precedes cost count least often ≡ true
-  cheaper h = simp (lt-ltb cost least h)
-
-  pub dearer : least < cost → precedes cost count least often ≡ false
-  dearer h = simp (le-ltb cost least (omega arith), ne_eqb cost least (λ e. omega arith))
-
-  pub more_often : cost ≡ least → often < count → precedes cost count least often ≡ true
-  more_often e h = simp (le-ltb cost least (omega arith), eq-eqb cost least e, lt-ltb often count h)
-
-  pub less_often : cost ≡ least → count ≤ often → precedes cost count least often ≡ false
-  less_often e h = simp (le-ltb cost least (omega arith), eq-eqb cost least e, le-ltb often count h)
 
 -- a candidate has the cost and the count of its covering
 pub record Rated (costs counts : List ℕ) (n : ℕ) (r : Candidate) : Type 0 where

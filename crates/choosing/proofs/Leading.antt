@@ -3,9 +3,9 @@
 use mathlib.Core.Path.{◌≡◌, refl, sym, ap, ◌∙◌, subst, subst⁻¹}
 use mathlib.Core.Bool.{Bool, true, false, cond}
 use mathlib.Core.List.{List}
-use Prim.Native.Nat.{ℕ, suc, ◌+◌, ◌-◌, ◌^◌, ◌≤◌, ◌<◌}
+use Prim.Native.Nat.{ℕ, suc, min, ◌+◌, ◌-◌, ◌^◌, ◌≤◌, ◌<◌}
 use native.Mathlib.Omega.{arith}
-use native.Mathlib.Nat.{le_refl, le_trans, le_of_lt}
+use native.Mathlib.Nat.{le_refl, le_of_lt}
 use native.Mathlib.Numerals.{add-one}
 use native.Mathlib.Decide.{dec_lt, ℕ_discrete}
 use borrow.Author.Tests.{ltb-true, ltb-false}
@@ -20,21 +20,21 @@ use Rattle.terms.specs.Terms.{Terms, all_numbers, among, within, is_list, cost_a
 use Rattle.terms.specs.Laws.{InList, Competes, WinsBy}
 use Rattle.terms.proofs.Good.{all_good, all_length, all_at, entry, entry_rises}
 use Rattle.terms.proofs.All.{only}
-use Rattle.kernel.specs.Kernel.{at}
+use Rattle.kernel.specs.Kernel.{at, Within}
 use Rattle.counts.specs.Counts.{counts_of}
 use Rattle.counts.proofs.Counts.{count_at}
-use Rattle.costing.specs.Costs.{spreads, placement_of, cost_from, Low}
+use Rattle.costing.specs.Costs.{spreads, needed_spreads, placement_of, cost_from, Low}
 use Rattle.choosing.specs.Leading.{InRow, Holds, Priced, Counted, Cheapest, stands_at, First}
 use Rattle.choosing.specs.declared.near.Leader.{Leader}
-use Rattle.costing.proofs.Placements.{placement_below, cost_from_law}
+use Rattle.costing.proofs.Placements.{placement_below, cost_from_law, spreads_low, needed_low}
 
 -- ---- the costs, and the least of them
 
--- the first k costs of a row of m are there, with the least of them
-pub record Costed (m : ℕ) (cost : ℕ → ℕ) (all : List ℕ) (least k : ℕ) : Type 0 where
+-- the first k costs of a row of m are there, each as P says of its place, with the least of them
+pub record Costed (m : ℕ) (P : ℕ → ℕ → Type 0) (all : List ℕ) (least k : ℕ) : Type 0 where
   pub to : k ≤ m
   pub long : length all ≡ 117
-  pub priced : (j : ℕ) → j < k → get_or all j 0 ≡ cost (suc j)
+  pub priced : (j : ℕ) → j < k → P j (get_or all j 0)
   pub below : (j : ℕ) → j < k → least ≤ get_or all j 0
   pub one : (j : ℕ) × (j < k) × (get_or all j 0 ≡ least)
 
@@ -46,38 +46,36 @@ set_next all k x room P p q j l = go (ℕ_discrete j k)
     go (yes e) = rw e (subst⁻¹ (P k) (get_or-set_same all k x 0 room) q)
     go (no e) = subst⁻¹ (P j) (get_or-set_other all k j x 0 e) (p j (omega (arith, e)))
 
-pub costed_first : (m : ℕ) (cost : ℕ → ℕ) (all : List ℕ) (x : ℕ) → 0 < m → length all ≡ 117 → x ≡ cost 1 → Costed m cost (set all 0 x) x 1
-costed_first m cost all x h long e = record {
+pub costed_first : (m : ℕ) (P : ℕ → ℕ → Type 0) (all : List ℕ) (x : ℕ) → 0 < m → length all ≡ 117 → P 0 x → Costed m P (set all 0 x) x 1
+costed_first m P all x h long e = record {
   to = omega arith;
   long = length-set all 0 x ∙ long;
-  priced = set_next all 0 x (omega arith) (λ j c. c ≡ cost (suc j)) (λ j l. absurd (omega arith)) e;
+  priced = set_next all 0 x (omega arith) P (λ j l. absurd (omega arith)) e;
   below = set_next all 0 x (omega arith) (λ j c. x ≤ c) (λ j l. absurd (omega arith)) (le_refl x);
   one = (0, omega arith, get_or-set_same all 0 x 0 (omega arith));
 }
 
-pub costed_next : (m : ℕ) (cost : ℕ → ℕ) (all : List ℕ) (least k x r : ℕ) → m ≤ 117 → Costed m cost all least k → k < m → x ≡ cost (suc k) → r ≡ cond (ltb x least) x least → Costed m cost (set all k x) r (k + 1)
-costed_next m cost all least k x r few b h e f = rw (add-one k, f) (go (ltb x least) refl)
+pub costed_next : (m : ℕ) (P : ℕ → ℕ → Type 0) (all : List ℕ) (least k x r : ℕ) → m ≤ 117 → Costed m P all least k → k < m → P k x → r ≡ min x least → Costed m P (set all k x) r (k + 1)
+costed_next m P all least k x r few b h e f = rw (add-one k) (go (dec_lt x least))
   where
     room : k < length all
     room = omega (arith, b.long)
 
-    with-least : (c : ℕ) → c ≤ least → c ≤ x → (j : ℕ) × (j < suc k) × (get_or (set all k x) j 0 ≡ c) → Costed m cost (set all k x) c (suc k)
-    with-least c l m one = record {
+    with-least : (j : ℕ) × (j < suc k) × (get_or (set all k x) j 0 ≡ r) → Costed m P (set all k x) r (suc k)
+    with-least one = record {
       to = omega arith;
       long = length-set all k x ∙ b.long;
-      priced = set_next all k x room (λ j c. c ≡ cost (suc j)) b.priced e;
-      below = set_next all k x room (λ j d. c ≤ d) (λ j i. le_trans l (b.below j i)) m;
+      priced = set_next all k x room P b.priced e;
+      below = set_next all k x room (λ j d. r ≤ d) (λ j i. omega (arith, b.below j i)) (omega arith);
       one = one;
     }
 
-    go : (t : Bool) → ltb x least ≡ t → Costed m cost (set all k x) (cond t x least) (suc k)
-    go true q = with-least x (le_of_lt (ltb-true x least q)) (le_refl x) (k, omega arith, get_or-set_same all k x 0 room)
-    go false q =
-        let o = b.one in
-        with-least least (le_refl least) (ltb-false x least q) (o.0, omega (arith, o.1), get_or-set_other all k o.0 x 0 (λ z. omega (arith, o.1)) ∙ o.2)
+    go : Dec (x < least) → Costed m P (set all k x) r (suc k)
+    go (yes q) = with-least (k, omega arith, get_or-set_same all k x 0 room ∙ omega arith)
+    go (no q) = let o = b.one in with-least (o.0, omega (arith, o.1), get_or-set_other all k o.0 x 0 (λ z. omega (arith, o.1)) ∙ omega (arith, o.2))
 
-pub costed_last : (m : ℕ) (cost : ℕ → ℕ) (all : List ℕ) (least k : ℕ) → Costed m cost all least k → m ≤ k → Priced m cost all × ((cost : ℕ → ℕ) → Priced m cost all → Cheapest m cost least)
-costed_last m first all least k b h = (
+pub costed_last : (m : ℕ) (P : ℕ → ℕ → Type 0) (all : List ℕ) (least k : ℕ) → Costed m P all least k → m ≤ k → ((j : ℕ) → j < m → P j (get_or all j 0)) × ((cost : ℕ → ℕ) → Priced m cost all → Cheapest m cost least)
+costed_last m P all least k b h = (
   (λ j l. b.priced j (omega arith)),
   (λ cost p. record {
     below = λ n i. let s : suc (n - 1) ≡ n = omega arith in subst (λ (c : ℕ). least ≤ cost c) s (subst (λ (c : ℕ). least ≤ c) (p (n - 1) (omega arith)) (b.below (n - 1) (omega arith)));
@@ -238,6 +236,13 @@ pub cost_low : (costs : List ℕ) → Low costs → (n : ℕ) → Number n → c
 unfolding cost_from
 cost_low costs low n h =
     omega (arith, low (placement_of n 0) (placement_below n 0 h (omega arith)), low (placement_of n 1) (placement_below n 1 h (omega arith)), low (placement_of n 2) (placement_below n 2 h (omega arith)), low (placement_of n 3) (placement_below n 3 h (omega arith)))
+
+-- so are those that the code takes
+pub low_spreads : {costs : List ℕ} (v : List ℤ) → costs ≡ spreads v → Within (2 ^ 40) v → Low costs
+low_spreads v e w k l = rw e (spreads_low v w k l)
+
+pub low_needed : {costs : List ℕ} (needed : List ℕ) (v : List ℤ) → costs ≡ needed_spreads needed v → Within (2 ^ 40) v → Low costs
+low_needed needed v e w k l = rw e (needed_low needed v w k l)
 
 -- the n-th of a list
 abbrev pub nth : List ℕ → ℕ → ℕ

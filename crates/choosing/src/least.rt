@@ -2,7 +2,6 @@
 ghost use Rattle.std.specs.Prelude.{◌≡◌, cond, List, ℕ, ◌-◌, ◌^◌, get_or};
 ghost use Rattle.coverings.specs.Rule.{Number};
 ghost use Rattle.block.specs.Block.{pick};
-ghost use Rattle.tables.specs.Tables.{placement_table, four_table};
 ghost use Rattle.kernel.specs.Kernel.{at, Within};
 ghost use Rattle.counts.specs.Counts.{counts_of};
 ghost use Rattle.costing.specs.Costs.{cost_from, Low};
@@ -19,14 +18,14 @@ pub struct Candidate {
 }
 
 // A covering with its cost and its count.
-fn rated(costs: &[u64; 89], fours: &[u8; 468], counts: &[u32; 117], covering: u8) -> Candidate
-    requires { (fours.now ≡ four_table) × Number covering × Low costs.now }
+fn rated(costs: &[u64; 89], counts: &[u32; 117], covering: u8) -> Candidate
+    requires { Number covering × Low costs.now }
     ensures { (result.covering ≡ covering) × (result.cost ≡ cost_from costs.now covering) × (result.count ≡ get_or counts.now (covering - 1) 0) }
 {
     let k = covering as usize - 1;
     Candidate {
-        covering: covering,
-        cost: costing::covering_cost(costs, fours, covering),
+        covering,
+        cost: costing::covering_cost(costs, covering),
         count: counts[k],
     }
 }
@@ -35,13 +34,7 @@ fn rated(costs: &[u64; 89], fours: &[u8; 468], counts: &[u32; 117], covering: u8
 fn better(old: Candidate, new: Candidate) -> Candidate
     ensures { result ≡ cond (precedes new.cost new.count old.cost old.count) new old }
 {
-    if new.cost < old.cost {
-        return new;
-    }
-    if old.cost < new.cost {
-        return old;
-    }
-    if old.count < new.count {
+    if new.cost < old.cost || new.cost == old.cost && old.count < new.count {
         return new;
     }
     old
@@ -49,18 +42,15 @@ fn better(old: Candidate, new: Candidate) -> Candidate
 
 // The covering of a block, after the earlier choices that are counted in `usage`: least cost, then the most often chosen, then the lowest number.
 // Two wrong answers that the contract rules out: the first of the coverings of least cost, whatever the counts; and the last of those chosen most often.
-pub fn choose_least(placements: &[u8; 356], fours: &[u8; 468], v: [i64; 16], usage: Usage) -> u8
-    requires { (placements.now ≡ placement_table) × (fours.now ≡ four_table) × Within (2 ^ 40) v }
+pub fn choose_least(v: [i64; 16], usage: Usage) -> u8
+    requires { Within (2 ^ 40) v }
     ensures { Number result × ((earlier : List ℕ) → usage.counts ≡ counts_of earlier → result ≡ pick earlier (at v)) }
 {
-    let costs = costing::placement_costs(placements, &v);
+    let costs = costing::placement_costs(&v);
     let counts = usage.counts;
-    let mut best = rated(&costs, fours, &counts, 1);
-    let mut n: u8 = 2;
-    while n <= 117 {
-        let next = rated(&costs, fours, &counts, n);
-        best = better(best, next);
-        n += 1;
+    let mut best = rated(&costs, &counts, 1);
+    for n in 2..118 {
+        best = better(best, rated(&costs, &counts, n));
     }
     best.covering
 }

@@ -2,7 +2,6 @@
 ghost use Rattle.std.specs.Prelude.{◌≡◌, cond, List, ℕ, suc, ◌<◌, ◌≤◌, ◌^◌, ltb, length, get_or};
 ghost use Rattle.coverings.specs.Rule.{Number};
 ghost use Rattle.terms.specs.Terms.{within, pick_terms};
-ghost use Rattle.tables.specs.Tables.{placement_table, four_table};
 ghost use Rattle.kernel.specs.Kernel.{at, Within};
 ghost use Rattle.counts.specs.Counts.{counts_of};
 ghost use Rattle.costing.specs.Costs.{cost_from, Low};
@@ -11,35 +10,26 @@ ghost use Rattle.choosing.specs.Leading.{Priced, Counted, Cheapest, stands_at, F
 use counts::Usage;
 
 // The covering that leads, 0 where none does yet, and how it stands.
+// Kept: as none stands at 0, a turn of the loops is one comparison, and with an Option it would be two.
 #[derive(Clone, Copy)]
 pub struct Leader {
     pub covering: u8,
     pub standing: u64,
 }
 
-// The lesser of two numbers.
-pub fn lesser(a: u64, b: u64) -> u64
-    ensures { result ≡ cond (ltb a b) a b }
+// Puts the cost that `cost_at` gives for each place of a row of `count` there, and gives the least of them.
+pub(crate) fn put_costs<F: Fn(usize) -> u64>(all: &mut [u64; 117], count: usize, cost_at: F) -> u64
+    requires size { (length all.old ≡ 117) × (0 < count) × (count ≤ 117) }
+    requires callable { (k : ℕ) → k < count → F.pre cost_at k }
+    ensures put { (k : ℕ) → k < count → F.post cost_at k (get_or all.new k 0) }
+    ensures least { (cost : ℕ → ℕ) → Priced count cost all.new → Cheapest count cost result }
 {
-    if a < b {
-        return a;
-    }
-    b
-}
-
-// Puts the cost of each covering n at n - 1, and gives the least of them.
-fn put_costs(costs: &[u64; 89], fours: &[u8; 468], all: &mut [u64; 117]) -> u64
-    requires { (fours.now ≡ four_table) × Low costs.now × (length all.old ≡ 117) }
-    ensures { Priced 117 (cost_from costs.now) all.new × ((cost : ℕ → ℕ) → Priced 117 cost all.new → Cheapest 117 cost result) }
-{
-    let mut least = costing::covering_cost(costs, fours, 1);
+    let mut least = cost_at(0);
     all[0] = least;
-    let mut k: usize = 1;
-    while k < 117 {
-        let cost = costing::covering_cost(costs, fours, k as u8 + 1);
+    for k in 1..count {
+        let cost = cost_at(k);
         all[k] = cost;
-        least = lesser(cost, least);
-        k += 1;
+        least = cost.min(least);
     }
     least
 }
@@ -65,14 +55,14 @@ pub fn preferred(old: Leader, new: Leader) -> Leader
     old
 }
 
-// The covering at a place, as it stands.
-fn placed(all: &[u64; 117], counts: &[u32; 117], most: u64, k: usize) -> Leader
+// The covering at the place k, of a cost and chosen `count` times, as it stands.
+pub(crate) fn placed(k: usize, cost: u64, most: u64, count: u32) -> Leader
     requires { k < 117 }
-    ensures { (result.covering ≡ suc k) × (result.standing ≡ stands_at most (get_or all.now k 0) (get_or counts.now k 0)) }
+    ensures { (result.covering ≡ suc k) × (result.standing ≡ stands_at most cost count) }
 {
     Leader {
         covering: k as u8 + 1,
-        standing: standing(all[k], most, counts[k]),
+        standing: standing(cost, most, count),
     }
 }
 
@@ -87,32 +77,27 @@ fn most_frequent(all: &[u64; 117], counts: &[u32; 117], most: u64) -> u8
     };
     let mut low = none;
     let mut high = none;
-    let mut k: usize = 0;
-    while k < 58 {
-        low = preferred(low, placed(all, counts, most, k));
-        high = preferred(high, placed(all, counts, most, k + 59));
-        k += 1;
+    for k in 0..58 {
+        low = preferred(low, placed(k, all[k], most, counts[k]));
+        let above = k + 59;
+        high = preferred(high, placed(above, all[above], most, counts[above]));
     }
-    low = preferred(low, placed(all, counts, most, 58));
+    low = preferred(low, placed(58, all[58], most, counts[58]));
     preferred(low, high).covering
 }
 
 // The covering of a block, after the earlier choices that are counted in `usage`: of those that cost at most `slack` more than the cheapest the most often
 // chosen, then the lowest number. The slack is the tolerance in the numbers of the level.
 // Two wrong answers that the contract rules out: the cheapest of those chosen most often; and the last of them.
-pub fn choose_near(
-    placements: &[u8; 356],
-    fours: &[u8; 468],
-    v: [i64; 16],
-    usage: Usage,
-    slack: u64,
-) -> u8
-    requires { (placements.now ≡ placement_table) × (fours.now ≡ four_table) × Within (2 ^ 40) v × (slack ≤ 2 ^ 40) }
+pub fn choose_near(v: [i64; 16], usage: Usage, slack: u64) -> u8
+    requires { Within (2 ^ 40) v × (slack ≤ 2 ^ 40) }
     ensures { Number result × ((earlier : List ℕ) → usage.counts ≡ counts_of earlier → result ≡ pick_terms (within slack) earlier (at v)) }
 {
-    let costs = costing::placement_costs(placements, &v);
+    let costs = costing::placement_costs(&v);
     let counts = usage.counts;
     let mut all = [0u64; 117];
-    let least = put_costs(&costs, fours, &mut all);
+    let least = put_costs(&mut all, 117, |k| {
+        costing::covering_cost(&costs, k as u8 + 1)
+    });
     most_frequent(&all, &counts, least + slack)
 }

@@ -1,2 +1,3 @@
 pub mod Gates
 pub mod Together
+pub mod Told

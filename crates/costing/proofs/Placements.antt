@@ -12,7 +12,7 @@ use lib.Seq.{get_or-set_same, get_or-set_other}
 use Rattle.integers.proofs.Sums.{Σℕ_cong}
 use Rattle.integers.specs.Lists.{every}
 use Rattle.integers.proofs.Tests.{both_left, both_right, up_to, up_to_at, every_at}
-use Rattle.integers.proofs.Tabulate.{length_tabulate, get_d_tabulate}
+use Rattle.integers.proofs.Tabulate.{get_d_tabulate}
 use Rattle.coverings.specs.Words.{words, word_of}
 use Rattle.coverings.specs.Rule.{Number}
 use Rattle.coverings.proofs.Table.{count}
@@ -72,10 +72,6 @@ placement_cells n p i h l g =
 pub spread_cong : (x y : ℕ → ℤ) → ((i : ℕ) → i < 4 → x i ≡ y i) → spread x ≡ spread y
 spread_cong x y h = Σℕ_cong 3 (λ b. nat_abs (sign_row (suc b) x)) (λ b. nat_abs (sign_row (suc b) y)) (λ b l. ap nat_abs (rows_cong (suc b) x y h))
 
-pub spreads_length : (v : List ℤ) → length (spreads v) ≡ 89
-unfolding spreads
-spreads_length v = length_tabulate 89 (λ k. spread (placed v k))
-
 pub spreads_at : (v : List ℤ) (k : ℕ) → k < 89 → get_or (spreads v) k 0 ≡ spread (placed v k)
 unfolding spreads
 spreads_at v k h = get_d_tabulate 89 (λ k. spread (placed v k)) 0 k h
@@ -88,10 +84,6 @@ cost_from_law v n h =
     ∙ spread_cong (placed v (placement_of n p)) (values_of (shapes_of (word_of n) p) (at v)) (λ i g. ap (at v) (placement_cells n p i h l g)))
 
 -- ---- the placements of a list
-pub needed_length : (needed : List ℕ) (v : List ℤ) → length (needed_spreads needed v) ≡ 89
-unfolding needed_spreads
-needed_length needed v = length_tabulate 89 (λ k. cond (eqb (get_or needed k 0) 0) 0 (spread (placed v k)))
-
 pub needed_at : (needed : List ℕ) (v : List ℤ) (k : ℕ) → k < 89 → get_or (needed_spreads needed v) k 0 ≡ cond (eqb (get_or needed k 0) 0) 0 (spread (placed v k))
 unfolding needed_spreads
 needed_at needed v k h = get_d_tabulate 89 (λ k. cond (eqb (get_or needed k 0) 0) 0 (spread (placed v k))) 0 k h

@@ -24,13 +24,12 @@ impl Usage {
 
     // After one more block, for which a covering was chosen.
     // Two wrong answers that the contract rules out: the count of another covering raised; and a count that goes back to 0.
-    pub fn chosen(self, covering: u8) -> Usage
+    pub fn chosen(mut self, covering: u8) -> Usage
         requires { Number covering × (get_or self.counts (covering - 1) 0 + 1 < 2 ^ 32) }
         ensures { (earlier : List ℕ) → self.counts ≡ counts_of earlier → result.counts ≡ counts_of (earlier ++ (covering ∷ [])) }
     {
         let k = covering as usize - 1;
-        let mut counts = self.counts;
-        counts[k] = counts[k] + 1;
-        Usage { counts }
+        self.counts[k] += 1;
+        self
     }
 }

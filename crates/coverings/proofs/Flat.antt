@@ -3,10 +3,13 @@
 use mathlib.Core.Path.{◌≡◌, refl, sym, ap, ◌∙◌}
 use mathlib.Core.List.{List, [], ◌∷◌, ◌++◌}
 use Prim.Native.Nat.{ℕ, zero, suc, ◌+◌, ◌*◌, ◌-◌, ◌<◌}
-use native.Mathlib.Nat.{not-suc-le-zero, le_of_suc-le-suc, zero-add}
+use native.Mathlib.Nat.{not-suc-le-zero, le_of_suc-le-suc}
 use native.Mathlib.Omega.{arith}
 use lib.ListN.{length, get_or, get_or-append}
 use lib.Seq.{get_or-append-add}
+use Rattle.std.specs.Prelude.{slice_range}
+use Rattle.std.proofs.lemmas.List.{ext_get_or}
+use Rattle.std.proofs.lemmas.List.Edits.{length-between, get_or-between}
 use Rattle.coverings.specs.Block.{name_of}
 use Rattle.coverings.specs.Words.{words, word_of, joined, table}
 use Rattle.coverings.specs.Rule.{Number}
@@ -29,3 +32,14 @@ place n j h l = joined_at words sizes (n - 1) j (omega (arith, count)) l
 -- each word has sixteen names
 pub word_length : (n : ℕ) → Number n → length (word_of n) ≡ 16
 word_length n h = (rule.valid n h).sixteen
+
+table_length : length table ≡ 1872
+unfolding words table
+table_length = refl
+
+-- the sixteen names of a word, as a part of the table
+pub word_part : (n : ℕ) → Number n → slice_range table ((n - 1) * 16) ((n - 1) * 16 + 16) ≡ word_of n
+word_part n h =
+    let long : length (slice_range table ((n - 1) * 16) ((n - 1) * 16 + 16)) ≡ 16 = length-between table ((n - 1) * 16) ((n - 1) * 16 + 16) (omega (arith, table_length, h.1)) ∙ omega arith in
+    ext_get_or 0 _ _ (long ∙ sym (word_length n h))
+    (λ j l. get_or-between table ((n - 1) * 16) ((n - 1) * 16 + 16) j 0 (omega arith) ∙ place n j h (omega arith))

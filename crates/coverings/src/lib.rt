@@ -1,6 +1,6 @@
 // The coverings of a 4 by 4 block by four tetrominoes (document 01's pieces): the table of the 117 words, its rule (valid, rising, complete), which is
-// `Rule` of specs/Rule.antt and proved in proofs/Table.antt, and the entry that gives a covering's word. The table is handed out whole, so that a
-// caller binds it once and lends it where it is read in a loop.
+// `Rule` of specs/Rule.antt and proved in proofs/Table.antt, and the entry that gives a covering's word. The table is a static,
+// which is read where it is used.
 #![tactic(auto)]
 
 ghost use Rattle.std.specs.Prelude.{◌≡◌, length};
@@ -9,7 +9,7 @@ ghost use Rattle.coverings.specs.Words.{table, word_of};
 ghost use Rattle.coverings.specs.Rule.{Number, Rule};
 ghost use Rattle.coverings.specs.Entry.{WordAnswered};
 
-use refusals::{Answer, Refusal};
+use refusals::Refusal;
 
 // The words of the 117 coverings, one after the other: for each of the sixteen cells the piece that it is in.
 const WORDS: [u8; 1872] = [
@@ -82,40 +82,35 @@ pub fn count() -> u8
 }
 
 // The table: the words in the order of their numbers.
-pub fn all_words() -> [u8; 1872]
-    ensures { result ≡ table }
+pub fn all_words() -> &'static [u8; 1872]
+    ensures { result.now ≡ table }
 {
-    WORDS
+    &WORDS
 }
 
 // Copies the word of a covering out of the table.
-fn copy_word(words: &[u8; 1872], covering: u8, word: &mut [u8])
-    requires { (words.now ≡ table) × Number covering × (length word.old ≡ 16) }
+fn copy_word(covering: u8, word: &mut [u8])
+    requires { Number covering × (length word.old ≡ 16) }
     ensures { word.new ≡ word_of covering }
 {
     let start = (covering as usize - 1) * 16;
-    let mut i: usize = 0;
-    while i < 16 {
-        word[i] = words[start + i];
-        i += 1;
-    }
+    word.copy_from_slice(&all_words()[start..start + 16]);
 }
 
 // The entry "pieces of a covering (its word)": writes the word of a covering, by its number, into a slice of sixteen places.
 // Two wrong answers that the contract rules out: refusing covering 117; and a slice of seventeen places that is written all the same.
-pub fn word_of(covering: u8, word: &mut [u8]) -> Answer
+pub fn word_of(covering: u8, word: &mut [u8]) -> Result<(), Refusal>
     ensures { WordAnswered covering word.old word.new (answer_of result) }
 {
     if word.len() != 16 {
-        return Answer::Refused(Refusal::Frame);
+        return Err(Refusal::Frame);
     }
     if covering == 0 {
-        return Answer::Refused(Refusal::Covering);
+        return Err(Refusal::Covering);
     }
     if covering > 117 {
-        return Answer::Refused(Refusal::Covering);
+        return Err(Refusal::Covering);
     }
-    let words = all_words();
-    copy_word(&words, covering, word);
-    Answer::Done
+    copy_word(covering, word);
+    Ok(())
 }

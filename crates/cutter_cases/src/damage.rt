@@ -1,15 +1,15 @@
 // Good inputs damaged at one place: a byte replaced by another, a byte put in, a byte taken out, or all from there on taken off.
-use crate::answers::{DIFFERS, answer};
+use crate::answers::answer;
 use crate::seen::Seen;
 use crate::texts::Ask;
-use cases::safe::{over, plus, put_byte, rest, times};
+use cases::safe::{first, over, plus, rest, store, times};
 use plain_text::writing::put_text;
 use std::io;
 
 fn ask_of(height: usize, width: usize) -> Ask {
     Ask {
-        height: height,
-        width: width,
+        height,
+        width,
         levels: 1,
         quota: 5,
         rows: height,
@@ -44,11 +44,11 @@ fn put_middle(out: &mut [u8], at: usize, byte: u8, way: usize) -> usize {
     if way < 2 {
         return at;
     }
-    put_byte(out, at, byte_of(over(way, 2)));
+    store(out, at, byte_of(over(way, 2)));
     if way % 2 == 0 {
         return plus(at, 1);
     }
-    put_byte(out, plus(at, 1), byte as usize);
+    store(out, plus(at, 1), byte);
     plus(at, 2)
 }
 
@@ -57,52 +57,40 @@ fn put_damaged(out: &mut [u8], text: &[u8], i: usize, way: usize) -> usize {
     if text.len() <= i {
         return 0;
     }
-    let byte = text[i];
-    let next = i + 1;
-    let a = put_text(out, 0, &text[..i]);
-    let b = put_middle(out, a, byte, way);
+    let a = put_text(out, 0, first(text, i));
+    let b = put_middle(out, a, text[i], way);
     if way == 1 {
         return b;
     }
-    put_text(out, b, &text[next..])
+    put_text(out, b, &text[i + 1..])
 }
 
-fn damaged(k: Ask, i: usize, way: usize) -> usize {
-    let mut text = [0u8; 1024];
+fn damaged(k: Ask, i: usize, way: usize) -> Option<usize> {
+    let mut text = [0; 1024];
     let whole = crate::texts::put_input(&mut text, k);
-    if 1024 < whole {
-        return DIFFERS;
-    }
-    let mut out = [0u8; 1024];
-    let end = put_damaged(&mut out, &text[..whole], i, way);
-    if 1024 < end {
-        return DIFFERS;
-    }
-    answer(&out[..end])
+    let mut out = [0; 1024];
+    let end = put_damaged(&mut out, first(&text, whole), i, way);
+    answer(first(&out, end))
 }
 
-// Every place with so many ways, of which one in so many steps is tried; counted with what was seen before.
-fn damage_group(before: Seen, k: Ask, ways: usize, step: usize) -> Seen {
-    let end = over(times(length_of(k), ways), step);
-    let mut s = before;
-    let mut c: usize = 0;
-    while c < end {
+// Every place with so many ways, of which one in so many steps is tried.
+fn damage_group(seen: &mut Seen, k: Ask, ways: usize, step: usize) {
+    for c in 0..over(times(length_of(k), ways), step) {
         let n = times(c, step);
-        s = crate::seen::counted(s, k, damaged(k, over(n, ways), rest(n, ways)));
-        c += 1;
+        seen.count(k, damaged(k, over(n, ways), rest(n, ways)));
     }
-    s
 }
 
 // A square and two strips. A step has no factor in common with the ways, so that every place is met, and every way at one place in so many.
 pub fn tell_all(rt: &impl Print) -> io::Result<()> {
-    let none = crate::seen::nothing();
-    let small = damage_group(none, ask_of(4, 4), 512, 5);
-    let wide = damage_group(small, ask_of(4, 8), 512, 5);
-    let tall = damage_group(wide, ask_of(8, 4), 512, 5);
-    crate::seen::tell(rt, b"4 by 4, 4 by 8 and 8 by 4, damaged:", tall)?;
-    let square = damage_group(none, ask_of(8, 8), 14, 5);
-    let wider = damage_group(square, ask_of(8, 16), 14, 5);
-    let taller = damage_group(wider, ask_of(16, 8), 14, 5);
-    crate::seen::tell(rt, b"8 by 8, 8 by 16 and 16 by 8, damaged:", taller)
+    let mut small = Seen::default();
+    damage_group(&mut small, ask_of(4, 4), 512, 5);
+    damage_group(&mut small, ask_of(4, 8), 512, 5);
+    damage_group(&mut small, ask_of(8, 4), 512, 5);
+    crate::seen::tell(rt, b"4 by 4, 4 by 8 and 8 by 4, damaged:", small)?;
+    let mut large = Seen::default();
+    damage_group(&mut large, ask_of(8, 8), 14, 5);
+    damage_group(&mut large, ask_of(8, 16), 14, 5);
+    damage_group(&mut large, ask_of(16, 8), 14, 5);
+    crate::seen::tell(rt, b"8 by 8, 8 by 16 and 16 by 8, damaged:", large)
 }

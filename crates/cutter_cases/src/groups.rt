@@ -1,8 +1,8 @@
 // Groups of generated inputs: mixtures of heights, widths, levels, quotas, samples and ends; and inputs of about the length that is too long.
-use crate::answers::{DIFFERS, answer};
+use crate::answers::answer;
 use crate::seen::Seen;
 use crate::texts::Ask;
-use cases::safe::{minus, plus, put_byte, times};
+use cases::safe::{first, plus, store, times};
 use std::io;
 
 // A height or a width: of pictures, and such as are 1, 12, or both at once.
@@ -56,8 +56,8 @@ fn ask_of(c: usize) -> Ask {
     let height = side_of(c % 8);
     let width = side_of(c / 8 % 8);
     Ask {
-        height: height,
-        width: width,
+        height,
+        width,
         levels: levels_of(c / 64 % 4),
         quota: quota_of(c / 256 % 5),
         rows: rows_of(height),
@@ -70,55 +70,47 @@ fn ask_of(c: usize) -> Ask {
 fn end_of(text: &mut [u8], end: usize, way: usize) -> usize {
     match way {
         0 => end,
-        1 => minus(end, 1),
+        1 => end.saturating_sub(1),
         _ => {
-            put_byte(text, end, 10);
+            store(text, end, 10);
             plus(end, 1)
         }
     }
 }
 
-fn mixed(k: Ask, way: usize) -> usize {
-    let mut text = [0u8; 32768];
+fn mixed(k: Ask, way: usize) -> Option<usize> {
+    let mut text = [0; 32768];
     let whole = crate::texts::put_input(&mut text, k);
     let end = end_of(&mut text, whole, way);
-    if 32768 < end {
-        return DIFFERS;
-    }
-    answer(&text[..end])
+    answer(first(&text, end))
 }
 
 // Half of the 15,360 mixtures: seven steps at a time, and so every height, width, number of levels, quota, sample and end.
 fn mixture_group() -> Seen {
-    let mut s = crate::seen::nothing();
-    let mut c: usize = 0;
-    while c < 7680 {
+    let mut seen = Seen::default();
+    for c in 0..7680 {
         let n = times(c, 7);
         let k = ask_of(n);
-        s = crate::seen::counted(s, k, mixed(k, n / 5120 % 3));
-        c += 1;
+        seen.count(k, mixed(k, n / 5120 % 3));
     }
-    s
+    seen
 }
 
 // A header before spaces, in inputs of 65,535 to 65,538 bytes.
-fn long_input(k: Ask, c: usize) -> usize {
+fn long_input(k: Ask, c: usize) -> Option<usize> {
     let mut text = [b' '; 65538];
-    let end = 65535 + c % 4;
     crate::texts::put_header(&mut text, k);
-    answer(&text[..end])
+    answer(first(&text, 65535 + c % 4))
 }
 
 // A quarter of the headers of the mixtures, in the same steps.
 fn length_group() -> Seen {
-    let mut s = crate::seen::nothing();
-    let mut c: usize = 0;
-    while c < 1280 {
+    let mut seen = Seen::default();
+    for c in 0..1280 {
         let k = ask_of(times(c / 4, 7));
-        s = crate::seen::counted(s, k, long_input(k, c));
-        c += 1;
+        seen.count(k, long_input(k, c));
     }
-    s
+    seen
 }
 
 pub fn tell_all(rt: &impl Print) -> io::Result<()> {

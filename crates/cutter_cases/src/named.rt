@@ -1,19 +1,13 @@
 // Inputs with a name: the whole case of document 01, and for each two checks that can hold at once the one that comes first.
 use crate::answers::both;
 use crate::texts::Ask;
+use cases::safe::first;
 use std::io;
 
 fn show(rt: &impl Print, name: &str, text: &[u8]) -> io::Result<()> {
     let a = both(text);
-    let ours = a.ours;
-    let plain = a.plain;
-    print!(rt; "{ours} {plain}")?;
-    if a.same {
-        print!(rt; " ok ")?;
-    } else {
-        print!(rt; " differs ")?;
-    }
-    println!(rt; "{name}")
+    let end = if a.same { "ok" } else { "differs" };
+    println!(rt; "{} {} {end} {name}", a.ours, a.plain)
 }
 
 fn tell_good(rt: &impl Print) -> io::Result<()> {
@@ -215,20 +209,17 @@ fn show_whole(
     levels: usize,
 ) -> io::Result<()> {
     let k = Ask {
-        height: height,
-        width: width,
-        levels: levels,
+        height,
+        width,
+        levels,
         quota: 0,
         rows: height,
         columns: width,
         last: 7,
     };
-    let mut text = [0u8; 16384];
+    let mut text = [0; 16384];
     let end = crate::texts::put_input(&mut text, k);
-    if 16384 < end {
-        return Ok(());
-    }
-    show(rt, name, &text[..end])
+    show(rt, name, first(&text, end))
 }
 
 fn tell_long_strips(rt: &impl Print) -> io::Result<()> {
@@ -263,13 +254,10 @@ fn show_long(
     levels: usize,
     length: usize,
 ) -> io::Result<()> {
-    if 65538 < length {
-        return Ok(());
-    }
     let k = Ask {
-        height: height,
-        width: width,
-        levels: levels,
+        height,
+        width,
+        levels,
         quota: 0,
         rows: 0,
         columns: 0,
@@ -277,7 +265,7 @@ fn show_long(
     };
     let mut text = [b' '; 65538];
     crate::texts::put_header(&mut text, k);
-    show(rt, name, &text[..length])
+    show(rt, name, first(&text, length))
 }
 
 // 9 for the length, before all else.

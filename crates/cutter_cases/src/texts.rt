@@ -40,14 +40,11 @@ fn put_value(text: &mut [u8], at: usize, k: Ask, i: usize) -> usize {
 }
 
 fn put_rows(text: &mut [u8], at: usize, k: Ask) -> usize {
-    let end = times(k.rows, k.columns);
-    let mut p = at;
-    let mut i: usize = 0;
-    while i < end {
-        p = put_value(text, p, k, i);
-        i += 1;
+    let mut end = at;
+    for i in 0..times(k.rows, k.columns) {
+        end = put_value(text, end, k, i);
     }
-    p
+    end
 }
 
 // The whole input; gives its length.

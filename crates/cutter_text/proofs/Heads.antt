@@ -9,7 +9,7 @@ use Rattle.text.specs.Bytes.{bytes}
 use Rattle.text.specs.Text.{bad, got, rows, times, skip, sections, FitsValue, FitsRow}
 use Rattle.text.specs.Lines.{four, cell_at, four_of, four_at}
 use Rattle.text.specs.declared.lines.Four.{Four}
-use Rattle.text.specs.declared.lines.LineOfFour.TheVariants.{Of, Bad}
+use Rattle.std.specs.Prelude.{Some, None}
 use Rattle.text.proofs.Many.{SkipRead, four_at_law, four_none}
 use Rattle.text.proofs.Rows.{row_sound}
 use Rattle.cutter_text.specs.Forms.{plains, header_form}
@@ -33,11 +33,11 @@ module _ (t : List ℕ) where
   no_names e = rw e
 
   module _ (p : ℕ) (h : SkipRead N t 0 p) where
-    pub no_line : four_at t p ≡ Bad → sections header_form t ≡ bad
+    pub no_line : four_at t p ≡ None → sections header_form t ≡ bad
     unfolding sections rows times
     no_line e = rw (h.read, four_none t p e)
 
-    pub headed : (f : Four) → four_at t p ≡ Of f → Headed t (record { height = f.first; width = f.second; levels = f.third; quota = f.fourth; next = f.next })
+    pub headed : (f : Four) → four_at t p ≡ Some f → Headed t (record { height = f.first; width = f.second; levels = f.third; quota = f.fourth; next = f.next })
     unfolding sections rows times
     headed f e =
         let l = four_at_law t p f e in
@@ -48,5 +48,5 @@ module _ (t : List ℕ) where
         in
         record { read = rw (h.read, l.read) (ap (λ r. got ((r ∷ []) ∷ []) (drop f.next t)) k); within = l.within }
       where
-        the : {x y : Four} → Of x ≡ Of y → x ≡ y
+        the : {x y : Four} → Some x ≡ Some y → x ≡ y
         the q = cc

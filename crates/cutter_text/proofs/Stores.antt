@@ -8,7 +8,7 @@ use lib.IntN.{ℤ, pos, nat_abs}
 use lib.ListN.{drop, set}
 use Rattle.text.specs.Text.{Parsed, bad, got, and_then, plain, row, times, after}
 use Rattle.text.specs.At.{size_at}
-use Rattle.text.specs.declared.number.Size.TheVariants.{Of, Bad}
+use Rattle.std.specs.Prelude.{Some, None}
 use Rattle.text.proofs.Line.{one, one_bad, last, last_bad}
 use Rattle.cutter_text.specs.Forms.{plains}
 use Rattle.cutter_text.specs.Rows.{held_to, row_in, rows_in, row_of, rows_of}
@@ -35,14 +35,14 @@ module _ (h y x : ℕ) (out : List ℕ) where
   row_cons v bad = refl
   row_cons v (got vs r) = refl
 
-  pub row_next : (m : ℕ) (s : List ℕ) (p c v next : ℕ) → c ≡ after (plains m) → size_at s p c ≡ Of v next
+  pub row_next : (m : ℕ) (s : List ℕ) (p c v next : ℕ) → c ≡ after (plains m) → size_at s p c ≡ Some (v, next)
       → row_of h y x out (row (plains (suc m)) (drop p s)) ≡ row_of h y (suc x) (set out (x * h + y) (held_to v)) (row (plains m) (drop next s))
   unfolding after row
   row_next zero s p c v next k e = ap (row_of h y x out) (last s p v next (ap (size_at s p) (sym k) ∙ e)) ∙ row_cons (pos v) (got [] (drop next s))
   row_next (suc m) s p c v next k e =
       ap (row_of h y x out) (one (plains m) plain s p v next (ap (size_at s p) (sym k) ∙ e)) ∙ row_cons (pos v) (row (plains (suc m)) (drop next s))
 
-  pub row_none : (m : ℕ) (s : List ℕ) (p c : ℕ) → c ≡ after (plains m) → size_at s p c ≡ Bad → row_of h y x out (row (plains (suc m)) (drop p s)) ≡ bad
+  pub row_none : (m : ℕ) (s : List ℕ) (p c : ℕ) → c ≡ after (plains m) → size_at s p c ≡ None → row_of h y x out (row (plains (suc m)) (drop p s)) ≡ bad
   unfolding after
   row_none zero s p c k e = ap (row_of h y x out) (last_bad s p (ap (size_at s p) (sym k) ∙ e))
   row_none (suc m) s p c k e = ap (row_of h y x out) (one_bad (plains m) plain s p (ap (size_at s p) (sym k) ∙ e))
@@ -54,7 +54,7 @@ module _ (h y x : ℕ) (out : List ℕ) where
 
 -- the same at a loop's counter
 module _ (h w y x : ℕ) (out s : List ℕ) (p : ℕ) where
-  pub row_again : x < w → (c v next u : ℕ) → c ≡ after (plains (w - x - 1)) → size_at s p c ≡ Of v next → u ≡ held_to v
+  pub row_again : x < w → (c v next u : ℕ) → c ≡ after (plains (w - x - 1)) → size_at s p c ≡ Some (v, next) → u ≡ held_to v
       → row_of h y (x + 1) (set out (x * h + y) u) (row (plains (w - (x + 1))) (drop next s)) ≡ row_of h y x out (row (plains (w - x)) (drop p s))
   row_again l c v next u k e i =
       let m = w - x - 1 in
@@ -65,7 +65,7 @@ module _ (h w y x : ℕ) (out s : List ℕ) (p : ℕ) where
       ∙ sym (row_next h y x out m s p c v next k e)
       ∙ ap (λ (j : ℕ). row_of h y x out (row (plains j) (drop p s))) (sym e₁)
 
-  pub row_stop : x < w → (c : ℕ) → c ≡ after (plains (w - x - 1)) → size_at s p c ≡ Bad → row_of h y x out (row (plains (w - x)) (drop p s)) ≡ bad
+  pub row_stop : x < w → (c : ℕ) → c ≡ after (plains (w - x - 1)) → size_at s p c ≡ None → row_of h y x out (row (plains (w - x)) (drop p s)) ≡ bad
   row_stop l c k e =
       let m = w - x - 1 in
       let e₁ : w - x ≡ suc m = omega arith in

@@ -1,13 +1,10 @@
 -- Rows of values stored as the columns of a picture. Assumes nothing.
-use Rattle.std.specs.Prelude.{◌≡◌, cond, List, [], ◌∷◌, map, ℕ, suc, ◌+◌, ◌*◌, leb, ℤ, nat_abs, get_or, set, drop}
+use Rattle.refusals.specs.declared.Refusal.{Refusal}
+use Rattle.std.specs.Prelude.{◌≡◌, cond, List, [], ◌∷◌, map, ℕ, suc, ◌+◌, ◌*◌, leb, ℤ, nat_abs, get_or, set, drop, Option as Perhaps, Some, None, Result, Ok, Err, ⊤}
 use Rattle.std.proofs.Math.Option.{Option, none, some}
 use Rattle.refusals.specs.Refusal.{number_of}
-use Rattle.refusals.specs.declared.Answer.{Answer}
-use Rattle.refusals.specs.declared.Answer.TheVariants.{Done, Refused}
 use Rattle.text.specs.Text.{Parsed, bad, got}
 use Rattle.cutter_text.specs.Picture.{picture_in}
-use Rattle.cutter_text.specs.declared.samples.Past.{Past}
-use Rattle.cutter_text.specs.declared.samples.Past.TheVariants.{To, Bad}
 
 -- A value in 16 bits: a sample as it is, and 4,096 for any that is over 4,095.
 abbrev pub held_to : ℕ → ℕ
@@ -33,9 +30,9 @@ rows_of h y out bad = bad
 rows_of h y out (got rs r) = got (rows_in h y rs out) r
 
 -- What the code answers: the slice, and the text from the place past what was read.
-abbrev pub passed : Past → List ℕ → List ℕ → Parsed (List ℕ)
-passed (To p) s out = got out (drop p s)
-passed Bad s out = bad
+abbrev pub passed : Perhaps ℕ → List ℕ → List ℕ → Parsed (List ℕ)
+passed (Some p) s out = got out (drop p s)
+passed None s out = bad
 
 -- The picture that the text held, in 16 bits.
 pub record Stored (h w : ℕ) (o : Option (List (List (List ℤ)))) (new : List ℕ) : Type 0 where
@@ -44,6 +41,6 @@ pub record Stored (h w : ℕ) (o : Option (List (List (List ℤ)))) (new : List 
   pub samples : new ≡ map held_to (picture_in h w (get_or lines 0 []))
 
 -- "9 on all that follows."
-abbrev pub SamplesIn : ℕ → ℕ → Option (List (List (List ℤ))) → List ℕ → Answer → Type 0
-SamplesIn h w o new Done = Stored h w o new
-SamplesIn h w o new (Refused r) = (o ≡ none) × (number_of r ≡ 9)
+abbrev pub SamplesIn : ℕ → ℕ → Option (List (List (List ℤ))) → List ℕ → Result ⊤ Refusal → Type 0
+SamplesIn h w o new (Ok tt) = Stored h w o new
+SamplesIn h w o new (Err r) = (o ≡ none) × (number_of r ≡ 9)

@@ -5,17 +5,7 @@ ghost use Rattle.cutter_text.specs.Forms.{plains, samples_form};
 ghost use Rattle.cutter_text.specs.Laws.{PictureLaws};
 ghost use Rattle.cutter_text.specs.Rows.{held_to, row_of, rows_of, passed, SamplesIn};
 
-use refusals::{Answer, Refusal};
-use text::names::Skip;
-use text::number::Size;
-
-#[derive(Drop)]
-pub enum Past {
-    // The place past what was read.
-    To(usize),
-    // It breaks the line rules.
-    Bad,
-}
+use refusals::Refusal;
 
 // The largest height or width that the cutter takes. Its contract carries the laws of rows and pictures, which are so a part of what the check proves.
 pub fn largest_side() -> usize
@@ -40,62 +30,64 @@ fn end_of(x: usize, width: usize) -> u8
     ensures { result ≡ after (plains (width - x - 1)) }
 {
     if width - x == 1 {
-        return 10;
+        return b'\n';
     }
-    32
+    b' '
 }
 
-// Reads a line of as many values as the picture is wide, and stores them in row y.
-fn read_row(s: &[u8], at: usize, height: usize, width: usize, y: usize, samples: &mut [u16]) -> Past
+// Reads a line of as many values as the picture is wide, and stores them in row y: the place past it.
+fn read_row(
+    s: &[u8],
+    at: usize,
+    height: usize,
+    width: usize,
+    y: usize,
+    samples: &mut [u16],
+) -> Option<usize>
     requires { (y < height) × (height ≤ 32) × (width ≤ 32) × (length samples.old ≡ width * height) }
     ensures { passed result s.now samples.new ≡ row_of height y 0 samples.old (row (plains width) (drop at s.now)) }
 {
     let mut p = at;
-    let mut x = 0;
-    while x < width {
-        let end = end_of(x, width);
-        let Size::Of(v, next) = text::number::read_size(s, p, end) else {
-            return Past::Bad;
-        };
-        let k = x * height + y;
-        samples[k] = hold(v);
+    for x in 0..width {
+        let (v, next) = text::number::read_size(s, p, end_of(x, width))?;
+        samples[x * height + y] = hold(v);
         p = next;
-        x += 1;
     }
-    Past::To(p)
+    Some(p)
 }
 
 // Reads the lines of all rows.
-fn read_rows(s: &[u8], at: usize, height: usize, width: usize, samples: &mut [u16]) -> Past
+fn read_rows(s: &[u8], at: usize, height: usize, width: usize, samples: &mut [u16]) -> Option<usize>
     requires { (height ≤ 32) × (width ≤ 32) × (length samples.old ≡ width * height) }
     ensures { passed result s.now samples.new ≡ rows_of height 0 samples.old (times height (plains width) (drop at s.now)) }
 {
     let mut p = at;
-    let mut y = 0;
-    while y < height {
-        let Past::To(next) = read_row(s, p, height, width, y, samples) else {
-            return Past::Bad;
-        };
-        p = next;
-        y += 1;
+    for y in 0..height {
+        p = read_row(s, p, height, width, y, samples)?;
     }
-    Past::To(p)
+    Some(p)
 }
 
 // Reads the rows of a picture, from the place `at` to the end of the text, and stores them down columns. Two wrong answers that the contract rules out:
 // a picture whose rows are its columns, as `width` rows of `height` values; and a text accepted that goes on after the last row.
-pub fn read_samples(s: &[u8], at: usize, height: usize, width: usize, samples: &mut [u16]) -> Answer
+pub fn read_samples(
+    s: &[u8],
+    at: usize,
+    height: usize,
+    width: usize,
+    samples: &mut [u16],
+) -> Result<(), Refusal>
     requires { (at ≤ length s.now) × (height ≤ 32) × (width ≤ 32) × (length samples.old ≡ width * height) }
     ensures { SamplesIn height width (parse (samples_form height width) (drop at s.now)) samples.new result }
 {
-    let Skip::To(p) = text::names::skip_names(s, at, b"samples\n") else {
-        return Answer::Refused(Refusal::Text);
+    let Some(p) = text::names::skip_names(s, at, b"samples\n") else {
+        return Err(Refusal::Text);
     };
-    let Past::To(end) = read_rows(s, p, height, width, samples) else {
-        return Answer::Refused(Refusal::Text);
+    let Some(end) = read_rows(s, p, height, width, samples) else {
+        return Err(Refusal::Text);
     };
     if end < s.len() {
-        return Answer::Refused(Refusal::Text);
+        return Err(Refusal::Text);
     }
-    Answer::Done
+    Ok(())
 }

@@ -1,4 +1,5 @@
 -- What the cutter prints, by what its checks found. Assumes nothing.
+use Rattle.std.specs.Prelude.{Result, Ok, Err, ⊤}
 use mathlib.Core.Path.{◌≡◌, refl, sym, ap, ◌∙◌, subst}
 use mathlib.Core.Bool.{Bool, true, false, ◌||◌}
 use mathlib.Core.List.{List, []}
@@ -12,8 +13,6 @@ use borrow.Author.Tests.{ltb-false, lt-ltb, le-ltb}
 use Rattle.pyramid.specs.Sides.{is_sides, is_depth}
 use Rattle.refusals.specs.Refusal.{number_of, answer_of}
 use Rattle.refusals.specs.declared.Refusal.{Refusal}
-use Rattle.refusals.specs.declared.Answer.{Answer}
-use Rattle.refusals.specs.declared.Answer.TheVariants.{Done, Refused as Rejected}
 use Rattle.refusals.proofs.After.{number_le}
 use Rattle.text.specs.Text.{parse}
 use Rattle.cutter_text.specs.Forms.{samples_form}
@@ -23,8 +22,7 @@ use Rattle.cutter_text.specs.Header.{header_of, Headed, HeaderIn}
 use Rattle.cutting.specs.Checked.{Passed, Checked}
 use Rattle.cutter_text.specs.Rows.{Stored, SamplesIn}
 use Rattle.cutter_text.specs.declared.header.Heading.{Heading}
-use Rattle.cutter_text.specs.declared.header.Header.{Header}
-use Rattle.cutter_text.specs.declared.header.Header.TheVariants.{Of, Refused}
+use Rattle.std.specs.Prelude.{Result, Ok, Err}
 use Rattle.cutting.proofs.Sheets.{held_text}
 
 pub printed : {x y old new : List ℕ} {m : ℕ} → x ≡ y → Printed y old new m → Printed x old new m
@@ -36,14 +34,14 @@ module _ (h w R K : ℕ) (o : Option (List (List (List ℤ)))) where
   unfolding samples_text
   none_text e = rw e
 
-  pub no_rows : (new : List ℕ) (a : Answer) (r : Refusal) → a ≡ Rejected r → SamplesIn h w o new a → (m : ℕ) → m ≡ answer_of a → samples_text h w R K o ≡ refusal_text m
+  pub no_rows : (new : List ℕ) (a : Result ⊤ Refusal) (r : Refusal) → a ≡ Err r → SamplesIn h w o new a → (m : ℕ) → m ≡ answer_of a → samples_text h w R K o ≡ refusal_text m
   no_rows new a r e f m k = let x = subst (SamplesIn h w o new) e f in none_text x.0 ∙ ap refusal_text (sym (k ∙ ap answer_of e ∙ x.1))
 
   stored_text : (new : List ℕ) → Stored h w o new → samples_text h w R K o ≡ picture_text h w R K new
   unfolding samples_text
   stored_text new f = ap (samples_text h w R K) f.read ∙ sym (held_text h w R K (picture_in h w (get_or f.lines 0 []))) ∙ ap (picture_text h w R K) (sym f.samples)
 
-  pub some_rows : (new : List ℕ) (a : Answer) → a ≡ Done → SamplesIn h w o new a → samples_text h w R K o ≡ picture_text h w R K new
+  pub some_rows : (new : List ℕ) (a : Result ⊤ Refusal) → a ≡ (Ok tt) → SamplesIn h w o new a → samples_text h w R K o ≡ picture_text h w R K new
   some_rows new a e f = stored_text new (subst (SamplesIn h w o new) e f)
 
 -- the sizes
@@ -75,11 +73,11 @@ module _ (t : List ℕ) where
   too_long l = rw (lt-ltb input_limit (length t) l)
 
   module _ (l : length t ≤ input_limit) where
-    bad-text : (r : Refusal) → HeaderIn t (Refused r) → cutter_text t ≡ refusal_text (number_of r)
+    bad-text : (r : Refusal) → HeaderIn t (Err r) → cutter_text t ≡ refusal_text (number_of r)
     unfolding cutter_text header_text
     bad-text r e = rw (le-ltb input_limit (length t) l, e.0, e.1)
 
-    pub no_header : (o : Header) (r : Refusal) → o ≡ Refused r → HeaderIn t o → Checked t o
+    pub no_header : (o : Result Heading Refusal) (r : Refusal) → o ≡ Err r → HeaderIn t o → Checked t o
     no_header o r e h = subst (Checked t) (sym e) (bad-text r (subst (HeaderIn t) e h))
 
     module _ (h : Heading) (e : Headed t h) where
@@ -107,13 +105,6 @@ module _ (t : List ℕ) where
             within = e.within;
             text = sizes ∙ size_good h.height h.width h.levels h.quota (drop h.next t) a b c;
           }
-
-  pub no_sizes : (o : Header) (r : Refusal) → o ≡ Refused r → Checked t o → (m : ℕ) → m ≡ header_of o → cutter_text t ≡ refusal_text m
-  no_sizes o r e h m k = subst (Checked t) e h ∙ ap refusal_text (sym (k ∙ ap header_of e))
-
-pub header_le : (o : Header) → header_of o ≤ 99
-header_le (Of h) = omega arith
-header_le (Refused r) = omega (arith, number_le r)
 
 -- what is printed stands in the slice
 pub within : {t old new : List ℕ} {m : ℕ} → Printed t old new m → m ≤ length new

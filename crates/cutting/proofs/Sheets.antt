@@ -1,4 +1,5 @@
 -- What the three entries answer on a picture, and what is then printed. Assumes nothing.
+use Rattle.std.specs.Prelude.{Result, Ok, Err, ⊤}
 use mathlib.Core.Path.{◌≡◌, refl, sym, ap, ◌∙◌, subst}
 use mathlib.Core.Bool.{Bool, true, false, not}
 use mathlib.Core.List.{List, ◌++◌, map}
@@ -10,13 +11,9 @@ use lib.ListN.{length, get_or, drop}
 use borrow.Author.Tests.{eq-eqb, le-ltb}
 use Rattle.integers.specs.Lists.{every}
 use Rattle.integers.proofs.Tests.{is_true, both, every_of}
-use Rattle.refusals.specs.Refusal.{number_of, answer_of, counted_of, count_of, refuse_if, after_call}
+use Rattle.refusals.specs.Refusal.{number_of, answer_of, count_of, refuse_if, after_call}
 use Rattle.refusals.specs.declared.Refusal.{Refusal}
 use Rattle.refusals.proofs.After.{never_zero, past, within}
-use Rattle.refusals.specs.declared.Answer.{Answer}
-use Rattle.refusals.specs.declared.Answer.TheVariants.{Done, Refused}
-use Rattle.refusals.specs.declared.Counted.{Counted}
-use Rattle.refusals.specs.declared.Counted.TheVariants.{Count, Refused as Rejected}
 use Rattle.coverings.specs.Entry.{is_number}
 use Rattle.pyramid.specs.Plane.{Fits, all_blocks}
 use Rattle.pyramid.specs.Ranges.{in_range}
@@ -127,58 +124,58 @@ module _ (h w R : ℕ) (s : List ℕ) (a : is_sides h w ≡ true) (b : is_depth 
 
 -- decomposing: the refusal that came back is printed, or what is left to print is what keeping and writing give
 module _ (h w R K : ℕ) (s : List ℕ) (a : is_sides h w ≡ true) (b : is_depth R h w ≡ true) (k : length s ≡ w * h) where
-  module _ (p : List ℤ) (c : List ℕ) (q : List ℤ) (kp : length p ≡ w * h) (kc : length c ≡ all_blocks R h w) (kq : length q ≡ w * h) (p' : List ℤ) (c' : List ℕ) (q' : List ℤ) (o : Answer) (d : Decomposed h w R s p p' c c' q q' (answer_of o)) where
-    answered : (x : Answer) → o ≡ x → Decomposed h w R s p p' c c' q q' (answer_of x)
-    answered x e = subst (λ (y : Answer). Decomposed h w R s p p' c c' q q' (answer_of y)) e d
+  module _ (p : List ℤ) (c : List ℕ) (q : List ℤ) (kp : length p ≡ w * h) (kc : length c ≡ all_blocks R h w) (kq : length q ≡ w * h) (p' : List ℤ) (c' : List ℕ) (q' : List ℤ) (o : Result ⊤ Refusal) (d : Decomposed h w R s p p' c c' q q' (answer_of o)) where
+    answered : (x : Result ⊤ Refusal) → o ≡ x → Decomposed h w R s p p' c c' q q' (answer_of x)
+    answered x e = subst (λ (y : Result ⊤ Refusal). Decomposed h w R s p p' c c' q q' (answer_of y)) e d
 
-    pub end-4 : (r : Refusal) → o ≡ Refused r → (m : ℕ) → m ≡ answer_of o → picture_text h w R K s ≡ refusal_text m
+    pub end-4 : (r : Refusal) → o ≡ Err r → (m : ℕ) → m ≡ answer_of o → picture_text h w R K s ≡ refusal_text m
     end-4 r e m i =
-        let x = bad-samples h w R s a b k p c q kp kc kq r (answered (Refused r) e) in
+        let x = bad-samples h w R s a b k p c q kp kc kq r (answered (Err r) e) in
         print_4 h w R K s x.0 ∙ ap refusal_text (sym (i ∙ ap answer_of e ∙ x.1))
 
-    module _ (e : o ≡ Done) where
+    module _ (e : o ≡ (Ok tt)) where
       good : every is_sample s ≡ true
-      good = good-samples h w R s a b k p c q kp kc kq (answered Done e)
+      good = good-samples h w R s a b k p c q kp kc kq (answered (Ok tt) e)
 
       pub decomposed : OfPicture h w R p' c'
-      decomposed = record { samples = s; long = k; good = good; plane = (answered Done e).planes; covers = (answered Done e).covers }
+      decomposed = record { samples = s; long = k; good = good; plane = (answered (Ok tt) e).planes; covers = (answered (Ok tt) e).covers }
 
       pub left : picture_text h w R K s ≡ kept_text h w R K p' c'
-      left = print_kept h w R K s good ∙ (λ i. kept_text h w R K (sym (answered Done e).planes i) (sym (answered Done e).covers i))
+      left = print_kept h w R K s good ∙ (λ i. kept_text h w R K (sym (answered (Ok tt) e).planes i) (sym (answered (Ok tt) e).covers i))
 
 -- keeping, and then writing
-module _ (h w R K : ℕ) (a : is_sides h w ≡ true) (b : is_depth R h w ≡ true) (p : List ℤ) (c : List ℕ) (g : OfPicture h w R p c) (p' : List ℤ) (u : Counted) (v : Kept h w R p p' K (counted_of u) (count_of u)) where
+module _ (h w R K : ℕ) (a : is_sides h w ≡ true) (b : is_depth R h w ≡ true) (p : List ℤ) (c : List ℕ) (g : OfPicture h w R p c) (p' : List ℤ) (u : Result ℕ Refusal) (v : Kept h w R p p' K (answer_of u) (count_of u)) where
   abbrev Q : List ℤ
   Q = kept_of R h w K (plane_of R h w g.samples)
 
   abbrev D : List ℕ
   D = covers_of R h w g.samples
 
-  kept : (x : Counted) → u ≡ x → Kept h w R (plane_of R h w g.samples) p' K (counted_of x) (count_of x)
-  kept x i = subst (λ (y : List ℤ). Kept h w R y p' K (counted_of x) (count_of x)) g.plane (subst (λ (y : Counted). Kept h w R p p' K (counted_of y) (count_of y)) i v)
+  kept : (x : Result ℕ Refusal) → u ≡ x → Kept h w R (plane_of R h w g.samples) p' K (answer_of x) (count_of x)
+  kept x i = subst (λ (y : List ℤ). Kept h w R y p' K (answer_of x) (count_of x)) g.plane (subst (λ (y : Result ℕ Refusal). Kept h w R p p' K (answer_of y) (count_of y)) i v)
 
-  pub end_7 : (r : Refusal) → u ≡ Rejected r → (m : ℕ) → m ≡ counted_of u → kept_text h w R K p c ≡ refusal_text m
+  pub end_7 : (r : Refusal) → u ≡ Err r → (m : ℕ) → m ≡ answer_of u → kept_text h w R K p c ≡ refusal_text m
   end_7 r i m e =
-      let x = bad-quota h w R g.samples a b g.long g.good K r (kept (Rejected r) i) in
-      print_7 h w R K p c x.0 ∙ ap refusal_text (sym (e ∙ ap counted_of i ∙ x.1))
+      let x = bad-quota h w R g.samples a b g.long g.good K r (kept (Err r) i) in
+      print_7 h w R K p c x.0 ∙ ap refusal_text (sym (e ∙ ap answer_of i ∙ x.1))
 
-  module _ (m₀ : ℕ) (counts : u ≡ Count m₀) (tall : h ≤ 32) (wide : w ≤ 32) (old new : List ℕ) (room : 65536 ≤ length old) (answer : Counted) (z : WriteAnswered h w R p' c old new (counted_of answer) (count_of answer)) where
+  module _ (m₀ : ℕ) (counts : u ≡ Ok m₀) (tall : h ≤ 32) (wide : w ≤ 32) (old new : List ℕ) (room : 65536 ≤ length old) (answer : Result ℕ Refusal) (z : WriteAnswered h w R p' c old new (answer_of answer) (count_of answer)) where
     accepted : write_refusal h w R Q D old ≡ 0
     accepted = writes h w R g.samples a b g.long g.good tall wide K old room
 
-    wrote : (x : Counted) → answer ≡ x → WriteAnswered h w R Q D old new (counted_of x) (count_of x)
+    wrote : (x : Result ℕ Refusal) → answer ≡ x → WriteAnswered h w R Q D old new (answer_of x) (count_of x)
     wrote x i =
-        subst (λ (y : List ℤ). WriteAnswered h w R y D old new (counted_of x) (count_of x)) (kept (Count m₀) counts).planes
-        (subst (λ (y : List ℕ). WriteAnswered h w R p' y old new (counted_of x) (count_of x)) g.covers (subst (λ (y : Counted). WriteAnswered h w R p' c old new (counted_of y) (count_of y)) i z))
+        subst (λ (y : List ℤ). WriteAnswered h w R y D old new (answer_of x) (count_of x)) (kept (Ok m₀) counts).planes
+        (subst (λ (y : List ℕ). WriteAnswered h w R p' y old new (answer_of x) (count_of x)) g.covers (subst (λ (y : Result ℕ Refusal). WriteAnswered h w R p' c old new (answer_of y) (count_of y)) i z))
 
-    pub end-10 : (r : Refusal) → answer ≡ Rejected r → ⊥
-    end-10 r i = never_zero r ((wrote (Rejected r) i).number ∙ accepted)
+    pub end-10 : (r : Refusal) → answer ≡ Err r → ⊥
+    end-10 r i = never_zero r ((wrote (Err r) i).number ∙ accepted)
 
-    pub end-sheet : (m : ℕ) → answer ≡ Count m → Printed (kept_text h w R K p c) old new m
+    pub end-sheet : (m : ℕ) → answer ≡ Ok m → Printed (kept_text h w R K p c) old new m
     end-sheet m i =
-        let x = wrote (Count m) i in
+        let x = wrote (Ok m) i in
         subst (λ (t : List ℕ). Printed t old new m)
-        (sym (print_sheet h w R K p c (good-quota h w R g.samples a b g.long g.good K m₀ (kept (Count m₀) counts)) ∙ (λ j. sheet_text h w R (kept_of R h w K (g.plane j)) (g.covers j))))
+        (sym (print_sheet h w R K p c (good-quota h w R g.samples a b g.long g.good K m₀ (kept (Ok m₀) counts)) ∙ (λ j. sheet_text h w R (kept_of R h w K (g.plane j)) (g.covers j))))
         (record {
           size = x.count ∙ ap (λ (y : ℕ). after_call y (length (sheet_text h w R Q D)) 0) accepted;
           slice = x.slice ∙ ap (λ (y : ℕ). after_call y (sheet_text h w R Q D ++ drop (length (sheet_text h w R Q D)) old) old) accepted;

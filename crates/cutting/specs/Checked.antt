@@ -1,12 +1,11 @@
 -- What the code finds of a text up to the rows. Assumes nothing.
-use Rattle.std.specs.Prelude.{◌≡◌, true, List, ℕ, ◌≤◌, length, drop}
+use Rattle.std.specs.Prelude.{◌≡◌, true, List, ℕ, ◌≤◌, length, drop, Result, Ok, Err}
 use Rattle.refusals.specs.Refusal.{number_of}
 use Rattle.pyramid.specs.Sides.{is_sides, is_depth}
 use Rattle.text.specs.Text.{parse}
 use Rattle.cutter_text.specs.Forms.{samples_form}
 use Rattle.cutter_text.specs.declared.header.Heading.{Heading}
-use Rattle.cutter_text.specs.declared.header.Header.{Header}
-use Rattle.cutter_text.specs.declared.header.Header.TheVariants.{Of, Refused}
+use Rattle.refusals.specs.declared.Refusal.{Refusal}
 use Rattle.cutting.specs.Cutter.{refusal_text, samples_text, cutter_text}
 
 -- A header that passed all checks: what is left to print is what the rows give.
@@ -18,6 +17,6 @@ pub record Passed (t : List ℕ) (h : Heading) : Type 0 where
   pub within : h.next ≤ length t
   pub text : cutter_text t ≡ samples_text h.height h.width h.levels h.quota (parse (samples_form h.height h.width) (drop h.next t))
 
-abbrev pub Checked : List ℕ → Header → Type 0
-Checked t (Of h) = Passed t h
-Checked t (Refused r) = cutter_text t ≡ refusal_text (number_of r)
+abbrev pub Checked : List ℕ → Result Heading Refusal → Type 0
+Checked t (Ok h) = Passed t h
+Checked t (Err r) = cutter_text t ≡ refusal_text (number_of r)

@@ -12,8 +12,8 @@ ghost use Rattle.cutting.specs.Checked.{Checked};
 ghost use Rattle.cutting.specs.Laws.{CutterLaws};
 ghost use Rattle.cutting.specs.Pictures.{kept_text, OfPicture};
 
-use cutter_text::header::Header;
-use refusals::{Answer, Counted, Refusal};
+use cutter_text::header::Heading;
+use refusals::Refusal;
 
 fn sample_buffer() -> [u16; 1024]
     ensures { 1024 ≡ length result }
@@ -39,7 +39,7 @@ fn put_refusal(out: &mut [u8], number: u32) -> usize
     ensures { Printed (refusal_text number) out.old out.new result }
 {
     let p = text::write::put_bytes(out, 0, b"refusal\n");
-    text::write::put_cell(out, p, number, 10)
+    text::write::put_cell(out, p, number, b'\n')
 }
 
 // Keeps, and prints the sheet of what is left of a picture's plane.
@@ -57,13 +57,13 @@ fn print_kept(
     ensures { Printed (kept_text height width levels quota plane.old coverings.now) out.old out.new result }
 {
     let kept = keeping::keep(height, width, levels, plane, quota);
-    let Counted::Count(_) = kept else {
-        return put_refusal(out, refusals::counted_code(kept));
+    let Ok(_) = kept else {
+        return put_refusal(out, refusals::code(kept));
     };
     // Refused never: a sheet of at most 32 by 32 has at most 65,536 bytes.
     let written = sheet::write(height, width, levels, plane, coverings, out);
-    let Counted::Count(n) = written else {
-        return put_refusal(out, refusals::counted_code(written));
+    let Ok(n) = written else {
+        return put_refusal(out, refusals::code(written));
     };
     n
 }
@@ -86,7 +86,7 @@ fn print_sheet(
     ensures { Printed (picture_text height width levels quota samples.now) out.old out.new result }
 {
     let decomposed = coder::decompose(height, width, levels, samples, plane, coverings, scratch);
-    let Answer::Done = decomposed else {
+    let Ok(()) = decomposed else {
         return put_refusal(out, refusals::code(decomposed));
     };
     print_kept(height, width, levels, quota, plane, coverings, out)
@@ -139,7 +139,7 @@ fn print_rows(
     ensures { Printed (samples_text height width levels quota (parse (samples_form height width) (drop at text.now))) out.old out.new result }
 {
     let found = cutter_text::samples::read_samples(text, at, height, width, samples);
-    let Answer::Done = found else {
+    let Ok(()) = found else {
         return put_refusal(out, refusals::code(found));
     };
     print_picture(height, width, levels, quota, samples, out)
@@ -161,26 +161,23 @@ fn is_large(height: usize, width: usize) -> bool
 
 // The header of a text, where it passes all checks that come before the rows: the input's length, "9 on the header (its first two lines), 1 12 2".
 // Two wrong answers that the contract rules out: 12 for 64 by 6, which is 1; and 9 for an input of just 65,536 bytes.
-fn check_header(s: &[u8]) -> Header
+fn check_header(s: &[u8]) -> Result<Heading, Refusal>
     ensures { Checked s.now result }
 {
     if 65536 < s.len() {
-        return Header::Refused(Refusal::Text);
+        return Err(Refusal::Text);
     }
-    let found = cutter_text::header::read_header(s);
-    let Header::Of(h) = found else {
-        return found;
-    };
+    let h = cutter_text::header::read_header(s)?;
     if !places::checks::are_sides(h.height, h.width) {
-        return Header::Refused(Refusal::Side);
+        return Err(Refusal::Side);
     }
     if is_large(h.height, h.width) {
-        return Header::Refused(Refusal::Bench);
+        return Err(Refusal::Bench);
     }
     if !places::checks::is_depth(h.levels, h.height, h.width) {
-        return Header::Refused(Refusal::Depth);
+        return Err(Refusal::Depth);
     }
-    Header::Of(h)
+    Ok(h)
 }
 
 // The cutter on a text: prints at the front of `out`, and gives the length. Two wrong answers that the contract rules out: refusal 2 for 4 by 64 with no
@@ -189,7 +186,7 @@ pub fn cut(text: &[u8], out: &mut [u8; 65536]) -> usize
     ensures { Printed (cutter_text text.now) out.old out.new result }
 {
     let found = check_header(text);
-    let Header::Of(h) = found else {
+    let Ok(h) = found else {
         return put_refusal(out, cutter_text::header::code(found));
     };
     let height = h.height;

@@ -8,7 +8,7 @@ ghost use Rattle.refusals.specs.Refusal.{answer_of};
 ghost use Rattle.generator.specs.Generator.{step_of, output_of, samples_from, image_refusal, Generated};
 ghost use Rattle.generator.specs.Laws.{GeneratorLaws};
 
-use refusals::{Answer, Refusal};
+use refusals::Refusal;
 
 mod wrap;
 
@@ -16,14 +16,14 @@ mod wrap;
 fn next(s: u32) -> u32
     ensures { result ≡ step_of s }
 {
-    std::num::wrapping_add_u32(crate::wrap::wrapping_mul(s, 1664525), 1013904223)
+    std::num::wrapping_add_u32(wrap::wrapping_mul(s, 1664525), 1013904223)
 }
 
 // The sample of a state: its upper 12 bits.
 fn sample(s: u32) -> u16
     ensures { result ≡ output_of s }
 {
-    (s / 1048576) as u16
+    (s >> 20) as u16
 }
 
 // Fills a slice with samples, from its front.
@@ -31,37 +31,36 @@ fn fill(start: u32, samples: &mut [u16])
     ensures { samples.new ≡ samples_from (length samples.old) start }
 {
     let mut s = start;
-    let mut i: usize = 0;
-    while i < samples.len() {
-        let t = next(s);
-        samples[i] = sample(t);
-        s = t;
-        i += 1;
+    for x in samples.iter_mut() {
+        s = next(s);
+        *x = sample(s);
     }
 }
 
 // The checks of test_image. Document 02, wish 4: "Checks are 1, then 3."
-fn image_checks(height: usize, width: usize, samples: &[u16]) -> Answer
+fn image_checks(height: usize, width: usize, samples: &[u16]) -> Result<(), Refusal>
     ensures { answer_of result ≡ image_refusal height width samples.now }
 {
     if !places::checks::are_sides(height, width) {
-        return Answer::Refused(Refusal::Side);
+        return Err(Refusal::Side);
     }
     if samples.len() != width * height {
-        return Answer::Refused(Refusal::Frame);
+        return Err(Refusal::Frame);
     }
-    Answer::Done
+    Ok(())
 }
 
 // Writes the test image of a start, down columns; every start is good. The contract carries the laws of the generator too.
 // Two wrong answers that the contract rules out: the sample of the old state, so that from 0 the first is 0; 3 for 4 by 6 with no samples.
-pub fn test_image(height: usize, width: usize, start: u32, samples: &mut [u16]) -> Answer
+pub fn test_image(
+    height: usize,
+    width: usize,
+    start: u32,
+    samples: &mut [u16],
+) -> Result<(), Refusal>
     ensures { Generated height width start samples.old samples.new (answer_of result) × GeneratorLaws }
 {
-    let found = image_checks(height, width, samples);
-    if let Answer::Refused(r) = found {
-        return Answer::Refused(r);
-    }
+    image_checks(height, width, samples)?;
     fill(start, samples);
-    Answer::Done
+    Ok(())
 }

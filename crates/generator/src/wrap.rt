@@ -1,4 +1,5 @@
 // Products modulo 2^32, by wrapping sums: the multiplier is halved, the multiplicand doubled.
+// Kept: the library has `wrapping_mul`, but the form of this place is a helper of wrapping sums (docs/DECISIONS.md, "Forms by place").
 ghost use Rattle.std.specs.Prelude.{◌≡◌, ◌*◌, ◌%◌, ◌^◌};
 
 // The part where the number left is odd, and else 0.
@@ -21,7 +22,7 @@ pub fn wrapping_mul(a: u32, b: u32) -> u32
     while 0 < left {
         sum = std::num::wrapping_add_u32(sum, odd_part(left, part));
         part = std::num::wrapping_add_u32(part, part);
-        left = left / 2;
+        left /= 2;
     }
     sum
 }

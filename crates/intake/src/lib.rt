@@ -17,7 +17,8 @@ pub mod reading;
 mod tests;
 
 // What became of the input: how it was read, and the length of what is to be printed.
-#[derive(Drop)]
+// Kept: no Option for a size that is 0 where a read failed: `CutOf` of specs/Cuts.antt speaks of both ways of reading beside it.
+#[derive(Clone, Copy)]
 pub struct Cut {
     pub input: Input,
     pub size: usize,

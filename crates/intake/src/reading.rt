@@ -6,7 +6,8 @@ ghost use Rattle.intake.specs.Reading.{PartRead, PartGiven, InputRead, InputGive
 use std::io::Read;
 
 // What one read gave.
-#[derive(Drop)]
+// Kept: four ways with a promise for each (`PartAt`, `PartGiven`), no Option or Result.
+#[derive(Clone, Copy)]
 pub enum Part {
     // Bytes came: the place past them.
     To(usize),
@@ -19,7 +20,8 @@ pub enum Part {
 }
 
 // Why reading stopped, with the number of bytes that are there.
-#[derive(Drop)]
+// Kept: an input that ended and a full buffer are told apart (`InputAt`, `InputGiven`): no Option or Result.
+#[derive(Clone, Copy)]
 pub enum Input {
     // The input has ended.
     Ended(usize),

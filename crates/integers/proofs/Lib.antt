@@ -1,10 +1,12 @@
 pub mod Bound
 pub mod Div
+pub mod Every
 pub mod Half
 pub mod Index
 pub mod Laws
 pub mod Lin
 pub mod Machine
+pub mod Made
 pub mod Ring
 pub mod Signs
 pub mod Sums

@@ -10,19 +10,12 @@ ghost use Rattle.integers.specs.Zero.{is_zero};
 pub fn magnitude(v: i64) -> u64
     ensures { result ≡ nat_abs v }
 {
-    if v < 0 {
-        (-(v + 1)) as u64 + 1
-    } else {
-        v as u64
-    }
+    v.unsigned_abs()
 }
 
 // Whether a number is 0. Two wrong answers that the contract rules out: yes for 2^32, whose low bits are 0; and no for 0.
 pub fn is_zero(v: i64) -> bool
     ensures { result ≡ is_zero v }
 {
-    if v == 0 {
-        return true;
-    }
-    false
+    v == 0
 }

@@ -1,4 +1,5 @@
 -- The checks of join: the number of each call by what is found, and what is found where none refuses. Assumes nothing.
+use Rattle.std.specs.Prelude.{Result, Ok, ⊤}
 use mathlib.Core.Path.{◌≡◌, sym, ◌∙◌, subst}
 use mathlib.Core.Bool.{Bool, true, false, not, ◌&&◌}
 use mathlib.Core.List.{List}
@@ -11,8 +12,6 @@ use lib.IntN.{ℤ}
 use lib.ListN.{length}
 use Rattle.refusals.specs.Refusal.{number_of, answer_of, refuse_if, after_call}
 use Rattle.refusals.specs.declared.Refusal.{Refusal}
-use Rattle.refusals.specs.declared.Answer.{Answer}
-use Rattle.refusals.specs.declared.Answer.TheVariants.{Done}
 use Rattle.refusals.proofs.After.{unchanged, past, within, front_passed}
 use Rattle.integers.proofs.Tests.{is_true, both, both_left, both_right, both_true, two_hold, not_both, eq→eqb, true_at, false_at}
 use Rattle.pyramid.specs.Plane.{all_blocks}
@@ -114,7 +113,7 @@ pair_past lh lw lR rh rw rR e =
     let v = both_true (eqb lw rw) _ u.1 in
     (record { left = passed lh lw lR s.0 t.0; right = passed rh rw rR s.1 t.1; heights = eqb-true _ _ u.0; widths = eqb-true _ _ v.0; levels = eqb-true _ _ v.1; narrow = ltb-false 512 (lw + lw) d.0 }, d.1)
 
-pub pair_passed : (lh lw lR rh rw rR : ℕ) {a : Answer} → a ≡ Done → ((rest : ℕ) → pair_refusal lh lw lR rh rw rR rest ≡ after_call (answer_of a) rest (answer_of a)) → Pair lh lw lR rh rw rR
+pub pair_passed : (lh lw lR rh rw rR : ℕ) {a : Result ⊤ Refusal} → a ≡ (Ok tt) → ((rest : ℕ) → pair_refusal lh lw lR rh rw rR rest ≡ after_call (answer_of a) rest (answer_of a)) → Pair lh lw lR rh rw rR
 pair_passed lh lw lR rh rw rR e f = (pair_past lh lw lR rh rw rR (front_passed 0 e (f 0))).0
 
 -- by all of them

@@ -11,7 +11,7 @@ ghost use Rattle.joining.specs.Claims.{JoiningLaws};
 ghost use Rattle.joining.specs.Entries.{pair_refusal, join_refusal, Joined};
 ghost use Rattle.joining.specs.Pairs.{PairRoom, Paired, PlaneRoom, CoverRoom};
 
-use refusals::{Answer, Refusal};
+use refusals::Refusal;
 
 // The largest width of a strip that is joined to another as wide. Its contract carries the laws of the entry, which are so a part of what the check proves.
 pub fn widest_half() -> usize
@@ -56,15 +56,13 @@ fn join_planes(
 {
     let mut tall = height;
     let mut wide = width;
-    let mut rest = levels;
-    while 0 < rest {
+    for _ in 0..levels {
         let low = tall / 2;
         let half = wide / 2;
         put_pair(left, right, height, 0, half, tall, half, plane);
         put_pair(left, right, height, low, 0, low, half, plane);
         tall = low;
         wide = half;
-        rest -= 1;
     }
     put_pair(left, right, height, 0, 0, tall, wide, plane);
 }
@@ -83,17 +81,15 @@ fn join_coverings(
 {
     let mut tall = height;
     let mut wide = width;
-    let mut rest = levels;
     let mut first = 0;
-    while 0 < rest {
+    for _ in 0..levels {
         let n = (wide / 4) * (tall / 4);
         let at = first + first;
         slices::move_numbers(left, first, coverings, at, n);
         slices::move_numbers(right, first, coverings, at + n, n);
-        first = first + n;
-        tall = tall / 2;
-        wide = wide / 2;
-        rest -= 1;
+        first += n;
+        tall /= 2;
+        wide /= 2;
     }
 }
 
@@ -106,28 +102,28 @@ fn pair_checks(
     right_height: usize,
     right_width: usize,
     right_levels: usize,
-) -> Answer
+) -> Result<(), Refusal>
     ensures { (rest : ℕ) → pair_refusal left_height left_width left_levels right_height right_width right_levels rest ≡ after_call (answer_of result) rest (answer_of result) }
 {
     let sided = places::checks::are_sides(left_height, left_width)
         & places::checks::are_sides(right_height, right_width);
     if !sided {
-        return Answer::Refused(Refusal::Side);
+        return Err(Refusal::Side);
     }
     let deep = places::checks::is_depth(left_levels, left_height, left_width)
         & places::checks::is_depth(right_levels, right_height, right_width);
     if !deep {
-        return Answer::Refused(Refusal::Depth);
+        return Err(Refusal::Depth);
     }
     let same = (left_height == right_height)
         & ((left_width == right_width) & (left_levels == right_levels));
     if !same {
-        return Answer::Refused(Refusal::Mismatch);
+        return Err(Refusal::Mismatch);
     }
     if strips::widest() < left_width + left_width {
-        return Answer::Refused(Refusal::JoinedWidth);
+        return Err(Refusal::JoinedWidth);
     }
-    Answer::Done
+    Ok(())
 }
 
 // The checks of join. Document 02, wish 8: "Each check takes the left strip, then the right, before the next check; 3 then looks at the joined slices."
@@ -144,20 +140,17 @@ fn join_checks(
     right_coverings: &[u8],
     plane: &[i64],
     coverings: &[u8],
-) -> Answer
+) -> Result<(), Refusal>
     ensures { answer_of result ≡ join_refusal (strip_of left_height left_width left_levels left_plane.now left_coverings.now) (strip_of right_height right_width right_levels right_plane.now right_coverings.now) plane.now coverings.now }
 {
-    let paired = pair_checks(
+    pair_checks(
         left_height,
         left_width,
         left_levels,
         right_height,
         right_width,
         right_levels,
-    );
-    if let Answer::Refused(r) = paired {
-        return Answer::Refused(r);
-    }
+    )?;
     let framed = coder::is_framed(
         left_height,
         left_width,
@@ -178,12 +171,12 @@ fn join_checks(
         coverings,
     ));
     if !framed {
-        return Answer::Refused(Refusal::Frame);
+        return Err(Refusal::Frame);
     }
     let numbered = places::checks::all_numbers(left_coverings)
         & places::checks::all_numbers(right_coverings);
     if !numbered {
-        return Answer::Refused(Refusal::Covering);
+        return Err(Refusal::Covering);
     }
     let ranged = ranges::in_range(
         left_plane,
@@ -197,9 +190,9 @@ fn join_checks(
         right_levels as u32,
     );
     if !ranged {
-        return Answer::Refused(Refusal::Coefficient);
+        return Err(Refusal::Coefficient);
     }
-    Answer::Done
+    Ok(())
 }
 
 // Joins a left and a right strip of one height, width and number of levels: each band and each level's coverings hold the left strip's columns, then the
@@ -218,10 +211,10 @@ pub fn join(
     right_coverings: &[u8],
     plane: &mut [i64],
     coverings: &mut [u8],
-) -> Answer
+) -> Result<(), Refusal>
     ensures { Joined (strip_of left_height left_width left_levels left_plane.now left_coverings.now) (strip_of right_height right_width right_levels right_plane.now right_coverings.now) plane.old plane.new coverings.old coverings.new (answer_of result) }
 {
-    let found = join_checks(
+    join_checks(
         left_height,
         left_width,
         left_levels,
@@ -234,10 +227,7 @@ pub fn join(
         right_coverings,
         plane,
         coverings,
-    );
-    if let Answer::Refused(r) = found {
-        return Answer::Refused(r);
-    }
+    )?;
     join_planes(
         left_plane,
         right_plane,
@@ -254,5 +244,5 @@ pub fn join(
         left_levels,
         coverings,
     );
-    Answer::Done
+    Ok(())
 }

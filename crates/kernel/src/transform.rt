@@ -3,7 +3,7 @@ ghost use Rattle.std.specs.Prelude.{◌≡◌, List, ◌+◌, ◌*◌, ◌^◌, 
 ghost use Rattle.coverings.specs.Words.{word_of};
 ghost use Rattle.coverings.specs.Rule.{Number};
 ghost use Rattle.block.specs.Block.{sign_row, forward};
-ghost use Rattle.tables.specs.Tables.{cell_table, cell_at};
+ghost use Rattle.tables.specs.Tables.{cell_at};
 ghost use Rattle.kernel.specs.Kernel.{at, Within, four, Bands, piecewise, forward_of, inverse_of};
 
 // The four signed sums of four numbers: the low-pass sum and the three W.
@@ -30,36 +30,36 @@ pub fn signed_sums(a: i64, b: i64, c: i64, d: i64) -> Sums
 
 // The cell of a covering at 4 * label + i: the i-th cell of the piece with that label.
 // Two wrong answers that the contract rules out: that of the covering before; and the pieces by their names.
-pub fn cell_at(cells: &[u8; 1872], covering: u8, k: usize) -> usize
-    requires { (cells.now ≡ cell_table) × Number covering × (k < 16) }
+pub fn cell_at(covering: u8, k: usize) -> usize
+    requires { Number covering × (k < 16) }
     ensures { (result ≡ cell_at covering k) × (result < 16) }
 {
     let n = covering as usize;
-    cells[(n - 1) * 16 + k] as usize
+    tables::cells()[(n - 1) * 16 + k] as usize
 }
 
 // The low-pass sum and the tetrolet coefficients of the piece with a given label. The values are lent: handed over they would be copied for each piece.
-fn piece(cells: &[u8; 1872], covering: u8, label: usize, v: &[i64; 16]) -> Sums
-    requires { (cells.now ≡ cell_table) × Number covering × (label < 4) × Within (2 ^ 40) v.now }
+fn piece(covering: u8, label: usize, v: &[i64; 16]) -> Sums
+    requires { Number covering × (label < 4) × Within (2 ^ 40) v.now }
     ensures { Bands (λ b. forward (word_of covering) (at v.now) b label) result.low result.w1 result.w2 result.w3 }
 {
-    let a = cell_at(cells, covering, label * 4);
-    let b = cell_at(cells, covering, label * 4 + 1);
-    let c = cell_at(cells, covering, label * 4 + 2);
-    let d = cell_at(cells, covering, label * 4 + 3);
+    let a = cell_at(covering, label * 4);
+    let b = cell_at(covering, label * 4 + 1);
+    let c = cell_at(covering, label * 4 + 2);
+    let d = cell_at(covering, label * 4 + 3);
     signed_sums(v[a], v[b], v[c], v[d])
 }
 
 // The transform of a block by a covering: the low-pass sums and the tetrolet coefficients at 4 * band + label.
 // Two wrong answers that the contract rules out: the pieces in the order of their names; and the results at 4 * label + band.
-pub fn forward(cells: &[u8; 1872], covering: u8, v: [i64; 16]) -> [i64; 16]
-    requires { (cells.now ≡ cell_table) × Number covering × Within (2 ^ 40) v }
+pub fn forward(covering: u8, v: [i64; 16]) -> [i64; 16]
+    requires { Number covering × Within (2 ^ 40) v }
     ensures { result ≡ forward_of covering v }
 {
-    let a = piece(cells, covering, 0, &v);
-    let b = piece(cells, covering, 1, &v);
-    let c = piece(cells, covering, 2, &v);
-    let d = piece(cells, covering, 3, &v);
+    let a = piece(covering, 0, &v);
+    let b = piece(covering, 1, &v);
+    let c = piece(covering, 2, &v);
+    let d = piece(covering, 3, &v);
     [
         a.low, b.low, c.low, d.low, a.w1, b.w1, c.w1, d.w1, a.w2, b.w2, c.w2, d.w2, a.w3, b.w3,
         c.w3, d.w3,
@@ -92,26 +92,24 @@ pub fn by_labels(t: [i64; 16]) -> [i64; 16]
 
 // The values of the four pieces in cell order.
 // Two wrong answers that the contract rules out: the order of the labels; and the cells of another covering.
-pub fn by_cells(cells: &[u8; 1872], covering: u8, labelled: [i64; 16]) -> [i64; 16]
-    requires { (cells.now ≡ cell_table) × Number covering }
+pub fn by_cells(covering: u8, labelled: [i64; 16]) -> [i64; 16]
+    requires { Number covering }
     ensures { (t : List ℤ) → labelled ≡ piecewise t → result ≡ inverse_of covering t }
 {
     let mut values = [0i64; 16];
-    let mut k: usize = 0;
-    while k < 16 {
-        let cell = cell_at(cells, covering, k);
-        values[cell] = labelled[k];
-        k += 1;
+    for (k, value) in labelled.iter().enumerate() {
+        let cell = cell_at(covering, k);
+        values[cell] = *value;
     }
     values
 }
 
 // The values from the results of a block by a covering, in cell order: of the results of values, four times the values.
 // Two wrong answers that the contract rules out: the values in the order of the labels; and the values divided by four.
-pub fn inverse(cells: &[u8; 1872], covering: u8, t: [i64; 16]) -> [i64; 16]
-    requires { (cells.now ≡ cell_table) × Number covering × Within (2 ^ 40) t }
+pub fn inverse(covering: u8, t: [i64; 16]) -> [i64; 16]
+    requires { Number covering × Within (2 ^ 40) t }
     ensures { result ≡ inverse_of covering t }
 {
     let labelled = by_labels(t);
-    by_cells(cells, covering, labelled)
+    by_cells(covering, labelled)
 }

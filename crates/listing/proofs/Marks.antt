@@ -1,9 +1,10 @@
 -- The marks of a list, as the loop that makes them goes along it. Assumes nothing.
 use mathlib.Core.Path.{◌≡◌, refl, sym, ap, ◌∙◌}
 use mathlib.Core.Bool.{Bool, true, false, ◌||◌, or-true, or-false}
-use mathlib.Core.List.{List}
-use Prim.Native.Nat.{ℕ, ◌+◌, ◌≤◌, ◌<◌}
-use native.Mathlib.Decide.{ℕ_discrete}
+use mathlib.Core.List.{List, [], ◌∷◌}
+use Prim.Native.Nat.{ℕ, suc, ◌+◌, ◌≤◌, ◌<◌}
+use native.Mathlib.Decide.{ℕ_discrete, dec_lt}
+use Rattle.std.proofs.lemmas.List.{get_or_past}
 use native.Mathlib.Numerals.{add-one}
 use native.Mathlib.Omega.{arith}
 use borrow.Author.Tests.{eq-eqb, ne_eqb}
@@ -29,3 +30,15 @@ module _ (l : List ℕ) (i : ℕ) (marks : List Bool) (m : Marking l i marks) wh
 
   pub marks_all : length l ≤ i → Marked l marks
   marks_all h = (m.0, λ n k. sym (or-false (get_or marks n false)) ∙ ap (λ (o : List ℕ). get_or marks n false || one_of o n) (sym (drop_of_length-le l h)) ∙ m.1 n k)
+
+-- a number of the list is below 256, so that no number past the marks is in it
+beyond : (l : List ℕ) (n : ℕ) → ((k : ℕ) → k < length l → get_or l k 0 < 256) → 256 ≤ n → one_of l n ≡ false
+beyond [] n f h = refl
+beyond (x ∷ l) n f h = rw (ne_eqb n x (let g = f 0 (omega arith) in let e : n ≡ x → ⊥ = (λ q. omega arith) in e)) (beyond l n (λ k g. f (suc k) (omega arith)) h)
+
+pub marks_tell : (l : List ℕ) (marks : List Bool) → Marked l marks → ((k : ℕ) → k < length l → get_or l k 0 < 256) → (n : ℕ) → get_or marks n false ≡ one_of l n
+marks_tell l marks m f n = go (dec_lt n 256)
+  where
+    go : Dec (n < 256) → get_or marks n false ≡ one_of l n
+    go (yes h) = m.1 n h
+    go (no h) = get_or_past marks n false (omega (arith, m.0)) ∙ sym (beyond l n f (omega arith))

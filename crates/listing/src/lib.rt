@@ -11,7 +11,7 @@ ghost use Rattle.listing.specs.Claims.{ListingLaws};
 ghost use Rattle.listing.specs.Entries.{listed_refusal, DecomposedListed, RestoredListed};
 ghost use Rattle.listing.specs.Standing.{Marked, stand_refusal};
 
-use refusals::{Answer, Refusal};
+use refusals::Refusal;
 
 // The most coverings of a list. Its contract carries the laws of the two entries, which are so a part of what the check proves.
 pub fn longest_list() -> usize
@@ -25,23 +25,10 @@ pub fn longest_list() -> usize
 pub fn is_list(list: &[u8]) -> bool
     ensures { result ≡ is_list list.now }
 {
-    if list.len() == 0 {
+    if list.is_empty() {
         return false;
     }
-    let mut last: u8 = 0;
-    let mut i: usize = 0;
-    while i < list.len() {
-        let n = list[i];
-        if n <= last {
-            return false;
-        }
-        if 117 < n {
-            return false;
-        }
-        last = n;
-        i += 1;
-    }
-    true
+    list.is_sorted_by(|a, b| *a < *b) && places::checks::all_numbers(list)
 }
 
 // The checks of decompose_listed: those of decompose_within, then the list.
@@ -55,19 +42,16 @@ fn listed_checks(
     plane: &[i64],
     coverings: &[u8],
     scratch: &[i64],
-) -> Answer
+) -> Result<(), Refusal>
     ensures { answer_of result ≡ listed_refusal height width levels tolerance samples.now list.now plane.now coverings.now scratch.now }
 {
-    let found = coder::within_checks(
+    coder::within_checks(
         height, width, levels, tolerance, samples, plane, coverings, scratch,
-    );
-    if let Answer::Refused(r) = found {
-        return Answer::Refused(r);
-    }
+    )?;
     if !is_list(list) {
-        return Answer::Refused(Refusal::Listing);
+        return Err(Refusal::Listing);
     }
-    Answer::Done
+    Ok(())
 }
 
 // Decomposes a picture with a list of coverings and a tolerance: of the coverings in the list whose cost at level r is at most the least in the list plus the
@@ -84,19 +68,16 @@ pub fn decompose_listed(
     plane: &mut [i64],
     coverings: &mut [u8],
     scratch: &mut [i64],
-) -> Answer
+) -> Result<(), Refusal>
     ensures { DecomposedListed height width levels tolerance samples.now list.now plane.old plane.new coverings.old coverings.new scratch.old scratch.new (answer_of result) }
 {
-    let found = listed_checks(
+    listed_checks(
         height, width, levels, tolerance, samples, list, plane, coverings, scratch,
-    );
-    if let Answer::Refused(r) = found {
-        return Answer::Refused(r);
-    }
+    )?;
     analysis::decompose_all(
         height, width, levels, samples, plane, coverings, scratch, tolerance, list,
     );
-    Answer::Done
+    Ok(())
 }
 
 // Marks each number of a list. There is a mark for every byte, so that no list and no covering reaches past the marks.
@@ -104,11 +85,8 @@ fn marks_of(list: &[u8]) -> [bool; 256]
     ensures { Marked list.now result }
 {
     let mut marks = [false; 256];
-    let mut i: usize = 0;
-    while i < list.len() {
-        let n = list[i];
-        marks[n as usize] = true;
-        i += 1;
+    for n in list {
+        marks[*n as usize] = true;
     }
     marks
 }
@@ -119,32 +97,24 @@ fn all_listed(coverings: &[u8], list: &[u8]) -> bool
     ensures { result ≡ every (one_of list.now) coverings.now }
 {
     let marks = marks_of(list);
-    let mut i: usize = 0;
-    while i < coverings.len() {
-        let n = coverings[i];
-        if !marks[n as usize] {
-            return false;
-        }
-        i += 1;
-    }
-    true
+    coverings.iter().all(|n| marks[*n as usize])
 }
 
 // The checks of restore_listed between 3 and 6: the list, the coverings, and that they stand in it; `rest` is what those behind them give. A covering that is no
 // number, which is 5, stands in no good list, so it is looked for only where one is missing.
-fn stand_checks(coverings: &[u8], list: &[u8]) -> Answer
+fn stand_checks(coverings: &[u8], list: &[u8]) -> Result<(), Refusal>
     ensures { (rest : ℕ) → stand_refusal coverings.now list.now rest ≡ after_call (answer_of result) rest (answer_of result) }
 {
     if !is_list(list) {
-        return Answer::Refused(Refusal::Listing);
+        return Err(Refusal::Listing);
     }
     if all_listed(coverings, list) {
-        return Answer::Done;
+        return Ok(());
     }
     if !places::checks::all_numbers(coverings) {
-        return Answer::Refused(Refusal::Covering);
+        return Err(Refusal::Covering);
     }
-    Answer::Refused(Refusal::Unlisted)
+    Err(Refusal::Unlisted)
 }
 
 // Restores a plane by its coverings: numerators, samples, and zeros in the scratch slice, as coder::restore does, where each covering stands in the list. The
@@ -161,19 +131,13 @@ pub fn restore_listed(
     numerators: &mut [i64],
     samples: &mut [u16],
     scratch: &mut [i64],
-) -> Answer
+) -> Result<(), Refusal>
     ensures { RestoredListed height width levels plane.now coverings.now list.now numerators.old numerators.new samples.old samples.new scratch.old scratch.new (answer_of result) }
 {
-    let framed = coder::frame_checks(
+    coder::frame_checks(
         height, width, levels, plane, coverings, numerators, samples, scratch,
-    );
-    if let Answer::Refused(r) = framed {
-        return Answer::Refused(r);
-    }
-    let found = stand_checks(coverings, list);
-    if let Answer::Refused(r) = found {
-        return Answer::Refused(r);
-    }
+    )?;
+    stand_checks(coverings, list)?;
     coder::restore(
         height, width, levels, plane, coverings, numerators, samples, scratch,
     )

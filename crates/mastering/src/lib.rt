@@ -9,7 +9,7 @@ ghost use Rattle.strips.specs.Strip.{strip_of};
 ghost use Rattle.mastering.specs.Entry.{master_refusal, RestoredMaster};
 ghost use Rattle.mastering.specs.Claims.{MasterLaws};
 
-use refusals::{Answer, Refusal};
+use refusals::Refusal;
 
 // The checks of restore_master. Document 02, wish 13: those of restoring, and 20 "after 6 as the last check".
 fn master_checks(
@@ -21,19 +21,16 @@ fn master_checks(
     numerators: &[i64],
     samples: &[u16],
     scratch: &[i64],
-) -> Answer
+) -> Result<(), Refusal>
     ensures { answer_of result ≡ master_refusal (strip_of height width levels plane.now coverings.now) numerators.now samples.now scratch.now }
 {
-    let found = coder::restore_checks(
+    coder::restore_checks(
         height, width, levels, plane, coverings, numerators, samples, scratch,
-    );
-    if let Answer::Refused(r) = found {
-        return Answer::Refused(r);
-    }
+    )?;
     if !masters::all_whole(height, width, levels, plane, coverings) {
-        return Answer::Refused(Refusal::Master);
+        return Err(Refusal::Master);
     }
-    Answer::Done
+    Ok(())
 }
 
 // Restores a plane that was never cut, or another whose numerators are whole: numerators, samples, and zeros in the scratch slice. The contract carries the
@@ -49,17 +46,14 @@ pub fn restore_master(
     numerators: &mut [i64],
     samples: &mut [u16],
     scratch: &mut [i64],
-) -> Answer
+) -> Result<(), Refusal>
     ensures { RestoredMaster (strip_of height width levels plane.now coverings.now) numerators.old numerators.new samples.old samples.new scratch.old scratch.new (answer_of result) × MasterLaws }
 {
-    let found = master_checks(
+    master_checks(
         height, width, levels, plane, coverings, numerators, samples, scratch,
-    );
-    if let Answer::Refused(r) = found {
-        return Answer::Refused(r);
-    }
+    )?;
     synthesis::restore_all(
         height, width, levels, plane, coverings, numerators, samples, scratch,
     );
-    Answer::Done
+    Ok(())
 }

@@ -4,7 +4,6 @@
 
 ghost use Rattle.std.specs.Prelude.{◌≡◌, ◌↔◌, ◌-◌, ◌/◌, ◌^◌, ◌<◌, ◌≤◌, T, length};
 ghost use Rattle.integers.specs.Lists.{every};
-ghost use Rattle.tables.specs.Tables.{cell_table};
 ghost use Rattle.pyramid.specs.Plane.{halved};
 ghost use Rattle.pyramid.specs.Behind.{quad_of};
 ghost use Rattle.synthesis.specs.Synthesis.{Restorable};
@@ -45,28 +44,13 @@ fn sixteen_whole(v: &[i64; 16], levels: usize, unit: u64) -> bool
     requires { (levels ≤ 8) × (unit ≡ 4 ^ levels) × (length v.now ≡ 16) }
     ensures { result ≡ every (is_whole levels) v.now }
 {
-    let mut a: usize = 0;
-    while a < 16 {
-        if !is_whole(v[a], levels, unit) {
-            return false;
-        }
-        a += 1;
-    }
-    true
+    v.iter().all(|y| is_whole(*y, levels, unit))
 }
 
 // Whether the numerators of a block are whole: its values at the first level, in the order of its pieces, which does not matter; and those of its four blocks
 // below at any other.
 // Two wrong answers that the contract rules out: yes by the values of a deeper level; and yes where one block below was left out.
-fn whole_in(
-    cells: &[u8; 1872],
-    plane: &[i64],
-    coverings: &[u8],
-    k: Node,
-    low: [i64; 4],
-    unit: u64,
-) -> bool
-    requires cells_value { cells.now ≡ cell_table }
+fn whole_in(plane: &[i64], coverings: &[u8], k: Node, low: [i64; 4], unit: u64) -> bool
     requires restorable { Restorable k.levels k.height k.width coverings.now plane.now × Block k × (unit ≡ 4 ^ k.levels) }
     requires low_value { low ≡ quad_of (behind k k.level coverings.now plane.now) k.i k.j }
     ensures { T result ↔ AllIn (k.level - 1) (WholeCell k.levels k.height k.width coverings.now plane.now) k.i k.j }
@@ -76,22 +60,19 @@ fn whole_in(
     if k.level == 1 {
         return sixteen_whole(&pieces, k.levels, unit);
     }
-    let v = blockwise::values(cells, coverings, k, pieces);
-    let mut q: usize = 0;
-    while q < 4 {
+    let v = blockwise::values(coverings, k, pieces);
+    for q in 0..4 {
         let below = blockwise::child(k, q);
         let quad = blockwise::quarter(v, q);
-        if !whole_in(cells, plane, coverings, below, quad, unit) {
+        if !whole_in(plane, coverings, below, quad, unit) {
             return false;
         }
-        q += 1;
     }
     true
 }
 
 // Whether the numerators of block column j of the last level are whole.
 fn column_whole(
-    cells: &[u8; 1872],
     height: usize,
     width: usize,
     levels: usize,
@@ -100,20 +81,17 @@ fn column_whole(
     j: usize,
     unit: u64,
 ) -> bool
-    requires cells_value { cells.now ≡ cell_table }
     requires restorable { Restorable levels height width coverings.now plane.now }
     requires j_bound { (j < halved (levels - 1) width / 4) × (unit ≡ 4 ^ levels) }
     ensures { T result ↔ AllAlong (levels - 1) (WholeCell levels height width coverings.now plane.now) height j }
 {
     let tall = height >> (levels - 1);
-    let mut i: usize = 0;
-    while i < tall / 4 {
+    for i in 0..tall / 4 {
         let k = blockwise::first_node(levels, height, width, coverings.len(), i, j);
         let low = blockwise::last(plane, height, i, j);
-        if !whole_in(cells, plane, coverings, k, low, unit) {
+        if !whole_in(plane, coverings, k, low, unit) {
             return false;
         }
-        i += 1;
     }
     true
 }
@@ -130,15 +108,12 @@ pub fn all_whole(
     requires { Restorable levels height width coverings.now plane.now }
     ensures { result ≡ are_whole levels height width coverings.now plane.now }
 {
-    let cells = tables::cells();
     let unit = synthesis::power(levels);
     let wide = width >> (levels - 1);
-    let mut j: usize = 0;
-    while j < wide / 4 {
-        if !column_whole(&cells, height, width, levels, plane, coverings, j, unit) {
+    for j in 0..wide / 4 {
+        if !column_whole(height, width, levels, plane, coverings, j, unit) {
             return false;
         }
-        j += 1;
     }
     true
 }

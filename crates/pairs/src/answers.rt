@@ -1,67 +1,40 @@
-// What the coder and the plain second implementation answer to one call, and the line that tells it: what was asked, then for each entry its name, the
-// number of the coder's answer and that of the other, 0 where a call is accepted, and at the end whether the two agree.
-use cases::answers::settled;
+// The line that tells what the coder and the plain second implementation answer to one call: what was asked, then for each entry its name, the number of the
+// coder's answer and that of the other, 0 where a call is accepted, and at the end whether the two agree.
+use cases::answers::{Answer, Pair};
 use cases::tally::Verdict;
-use plain_frame::outcome::Outcome;
+use std::fmt::Display;
 use std::io;
 
-// Both answers, and whether the slices hold the same after both calls.
-#[derive(Drop)]
-pub struct Pair {
-    pub coder: Outcome,
-    pub plain: Outcome,
-    pub same: bool,
-}
-
-// An answer that is a number alone.
-pub fn numbered(n: u32) -> Outcome {
-    Outcome {
-        refusal: n,
-        a: 0,
-        b: 0,
-        c: 0,
-    }
-}
-
-// The same number, the same count, length, or height, width and levels, and the same in the slices.
-fn agree(p: Pair) -> bool {
-    let v = settled(p.coder, p.plain, p.same);
-    match v {
-        Verdict::Accepted => true,
-        Verdict::Refused => true,
-        Verdict::Differs => false,
-    }
+fn number<T: Drop>(a: Answer<T>) -> u32 {
+    a.err().unwrap_or(0)
 }
 
 // A part of what was asked: a name and its number.
-pub fn put(rt: &impl Print, name: &[u8], n: u64) -> io::Result<()> {
+pub fn put<N: Display + Drop>(rt: &impl Print, name: &[u8], n: N) -> io::Result<()> {
     rt.write_all(name)?;
     print!(rt; "{n} ")
 }
 
-pub fn put_signed(rt: &impl Print, name: &[u8], v: i64) -> io::Result<()> {
-    rt.write_all(name)?;
-    print!(rt; "{v} ")
-}
-
 // Tells the answers of an entry; gives whether they agree, and those before them in the line did.
-pub fn tell(rt: &impl Print, before: bool, entry: &[u8], p: Pair) -> io::Result<bool> {
+pub fn tell<T: Copy + PartialEq>(
+    rt: &impl Print,
+    before: bool,
+    entry: &[u8],
+    p: Pair<T>,
+) -> io::Result<bool> {
     rt.write_all(entry)?;
-    put(rt, b": ", p.coder.refusal as u64)?;
-    put(rt, b"", p.plain.refusal as u64)?;
-    Ok(before && agree(p))
+    let coder = number(p.coder);
+    let plain = number(p.plain);
+    print!(rt; ": {coder} {plain} ")?;
+    Ok(before && p.verdict() != Verdict::Differs)
 }
 
 pub fn end(rt: &impl Print, agreed: bool) -> io::Result<()> {
-    if agreed {
-        println!(rt; "agree")
-    } else {
-        println!(rt; "differ")
-    }
+    println!(rt; "{}", if agreed { "agree" } else { "differ" })
 }
 
 // The end of a line with one entry.
-pub fn tell_one(rt: &impl Print, entry: &[u8], p: Pair) -> io::Result<()> {
+pub fn tell_one<T: Copy + PartialEq>(rt: &impl Print, entry: &[u8], p: Pair<T>) -> io::Result<()> {
     end(rt, tell(rt, true, entry, p)?)
 }
 

@@ -3,6 +3,5 @@
 #![tactic(auto)]
 
 pub mod answers;
-pub mod front;
-pub mod left;
 pub mod planes;
+pub mod rooms;

@@ -1,13 +1,10 @@
 // Restoring, keeping, cutting, writing and reading a plane, by the coder and by the plain second implementation.
-use crate::answers::{Pair, numbered};
-use crate::front;
-use crate::left::{Left, pair};
-use cases::answers::outcome;
-use cases::safe::put_value;
-use cases::tally::{same_bytes, same_values};
-use plain_frame::frame::Extent;
-use plain_frame::outcome::Outcome;
-use sheet::Reading;
+use crate::rooms::Room;
+use cases::answers::{Answer, Pair, compare, of_coder, of_plain};
+use cases::safe::{first, first_mut, store};
+use plain_frame::frame::Frame;
+use refusals::Refusal;
+use sheet::Sheet;
 
 // A call: height, width and levels, the lengths of plane and coverings, and what they hold: one value among zeros, and one covering everywhere.
 #[derive(Clone, Copy)]
@@ -25,11 +22,11 @@ pub struct Plane {
 // A plane of zeros in slices of these lengths, each block with covering 1.
 pub fn zeros(height: usize, width: usize, levels: usize, plane: usize, coverings: usize) -> Plane {
     Plane {
-        height: height,
-        width: width,
-        levels: levels,
-        plane: plane,
-        coverings: coverings,
+        height,
+        width,
+        levels,
+        plane,
+        coverings,
         at: 0,
         value: 0,
         covering: 1,
@@ -37,8 +34,8 @@ pub fn zeros(height: usize, width: usize, levels: usize, plane: usize, coverings
 }
 
 pub fn plane_of(k: Plane) -> [i64; 65] {
-    let mut plane = [0i64; 65];
-    put_value(&mut plane, k.at, k.value);
+    let mut plane = [0; 65];
+    store(&mut plane, k.at, k.value);
     plane
 }
 
@@ -50,63 +47,41 @@ pub struct Lengths {
     pub scratch: usize,
 }
 
-fn restored_by_coder(k: Plane, l: Lengths) -> Left {
+pub fn restore_into(words: &[u8], k: Plane, l: Lengths) -> Pair<()> {
     let plane = plane_of(k);
     let coverings = [k.covering; 6];
-    let mut numerators = [7i64; 65];
-    let mut samples = [9u16; 65];
-    let mut scratch = [-3i64; 65];
-    let a = coder::restore(
-        k.height,
-        k.width,
-        k.levels,
-        front::values(&plane, k.plane),
-        front::bytes(&coverings, k.coverings),
-        front::values_mut(&mut numerators, l.numerators),
-        front::samples_mut(&mut samples, l.samples),
-        front::values_mut(&mut scratch, l.scratch),
-    );
-    Left {
-        answer: numbered(refusals::code(a)),
-        values: numerators,
-        samples: samples,
-        coverings: coverings,
-        scratch: scratch,
-    }
-}
-
-fn restored_by_plain(words: &[u8], k: Plane, l: Lengths) -> Left {
-    let plane = plane_of(k);
-    let coverings = [k.covering; 6];
-    let mut numerators = [7i64; 65];
-    let mut samples = [9u16; 65];
-    let mut scratch = [-3i64; 65];
-    let n = plain::pyramid::restore(
-        words,
-        k.height,
-        k.width,
-        k.levels,
-        front::values(&plane, k.plane),
-        front::bytes(&coverings, k.coverings),
-        front::values_mut(&mut scratch, l.scratch),
-        front::values_mut(&mut numerators, l.numerators),
-        front::samples_mut(&mut samples, l.samples),
-    );
-    Left {
-        answer: numbered(n),
-        values: numerators,
-        samples: samples,
-        coverings: coverings,
-        scratch: scratch,
-    }
-}
-
-pub fn restore_into(words: &[u8], k: Plane, l: Lengths) -> Pair {
-    pair(restored_by_coder(k, l), restored_by_plain(words, k, l))
+    compare(
+        Room::new(),
+        |room| {
+            of_coder(coder::restore(
+                k.height,
+                k.width,
+                k.levels,
+                first(&plane, k.plane),
+                first(&coverings, k.coverings),
+                first_mut(&mut room.values, l.numerators),
+                first_mut(&mut room.samples, l.samples),
+                first_mut(&mut room.scratch, l.scratch),
+            ))
+        },
+        |room| {
+            of_plain(plain::pyramid::restore(
+                words,
+                k.height,
+                k.width,
+                k.levels,
+                first(&plane, k.plane),
+                first(&coverings, k.coverings),
+                first_mut(&mut room.scratch, l.scratch),
+                first_mut(&mut room.values, l.numerators),
+                first_mut(&mut room.samples, l.samples),
+            ))
+        },
+    )
 }
 
 // Into slices as long as the plane.
-pub fn restore(words: &[u8], k: Plane) -> Pair {
+pub fn restore(words: &[u8], k: Plane) -> Pair<()> {
     let l = Lengths {
         numerators: k.plane,
         samples: k.plane,
@@ -115,159 +90,113 @@ pub fn restore(words: &[u8], k: Plane) -> Pair {
     restore_into(words, k, l)
 }
 
-pub fn keep(k: Plane, quota: u64) -> Pair {
-    let mut plane = plane_of(k);
-    let mut plane2 = plane_of(k);
-    let n = k.plane;
-    let x = outcome(keeping::keep(
-        k.height,
-        k.width,
-        k.levels,
-        front::values_mut(&mut plane, n),
-        quota,
-    ));
-    let y = plain::cut::keep(
-        k.height,
-        k.width,
-        k.levels,
-        front::values_mut(&mut plane2, n),
-        quota,
-    );
-    Pair {
-        coder: x,
-        plain: y,
-        same: same_values(&plane, &plane2),
-    }
+pub fn keep(k: Plane, quota: u64) -> Pair<usize> {
+    compare(
+        plane_of(k),
+        |plane| {
+            of_coder(keeping::keep(
+                k.height,
+                k.width,
+                k.levels,
+                first_mut(plane, k.plane),
+                quota,
+            ))
+        },
+        |plane| {
+            of_plain(plain::cut::keep(
+                k.height,
+                k.width,
+                k.levels,
+                first_mut(plane, k.plane),
+                quota,
+            ))
+        },
+    )
 }
 
-pub fn threshold(k: Plane, limit: u64) -> Pair {
-    let mut plane = plane_of(k);
-    let mut plane2 = plane_of(k);
-    let n = k.plane;
-    let x = outcome(keeping::threshold(
-        k.height,
-        k.width,
-        k.levels,
-        front::values_mut(&mut plane, n),
-        limit,
-    ));
-    let y = plain::cut::cut(
-        k.height,
-        k.width,
-        k.levels,
-        front::values_mut(&mut plane2, n),
-        limit,
-    );
-    Pair {
-        coder: x,
-        plain: y,
-        same: same_values(&plane, &plane2),
-    }
+pub fn threshold(k: Plane, limit: u64) -> Pair<usize> {
+    compare(
+        plane_of(k),
+        |plane| {
+            of_coder(keeping::threshold(
+                k.height,
+                k.width,
+                k.levels,
+                first_mut(plane, k.plane),
+                limit,
+            ))
+        },
+        |plane| {
+            of_plain(plain::cut::cut(
+                k.height,
+                k.width,
+                k.levels,
+                first_mut(plane, k.plane),
+                limit,
+            ))
+        },
+    )
 }
 
 // Both write into buffers of this length.
-fn both_write(k: Plane, plane: &[i64], coverings: &[u8], room: usize) -> Pair {
-    let mut buffer = [b'?'; 256];
-    let mut buffer2 = [b'?'; 256];
-    let x = outcome(sheet::write(
-        k.height,
-        k.width,
-        k.levels,
-        plane,
-        coverings,
-        front::bytes_mut(&mut buffer, room),
-    ));
-    let y = plain_text::writing::write(
-        k.height,
-        k.width,
-        k.levels,
-        plane,
-        coverings,
-        front::bytes_mut(&mut buffer2, room),
-    );
-    Pair {
-        coder: x,
-        plain: y,
-        same: same_bytes(&buffer, &buffer2),
-    }
-}
-
-pub fn write(k: Plane, room: usize) -> Pair {
+pub fn write(k: Plane, room: usize) -> Pair<usize> {
     let plane = plane_of(k);
     let coverings = [k.covering; 6];
-    both_write(
-        k,
-        front::values(&plane, k.plane),
-        front::bytes(&coverings, k.coverings),
-        room,
+    compare(
+        [b'?'; 256],
+        |buffer| {
+            of_coder(sheet::write(
+                k.height,
+                k.width,
+                k.levels,
+                first(&plane, k.plane),
+                first(&coverings, k.coverings),
+                first_mut(buffer, room),
+            ))
+        },
+        |buffer| {
+            of_plain(plain_text::writing::write(
+                k.height,
+                k.width,
+                k.levels,
+                first(&plane, k.plane),
+                first(&coverings, k.coverings),
+                first_mut(buffer, room),
+            ))
+        },
     )
 }
 
 // A reading as the second implementation gives it.
-fn told(r: Reading) -> Outcome {
-    match r {
-        Reading::Sheet {
-            height,
-            width,
-            levels,
-        } => Outcome {
-            refusal: 0,
-            a: height,
-            b: width,
-            c: levels,
-        },
-        Reading::Refused(r) => numbered(refusals::number(r) as u32),
-    }
-}
-
-fn read_by_coder(text: &[u8], n: usize, b: usize) -> Left {
-    let mut plane = [7i64; 65];
-    let mut coverings = [9u8; 6];
-    let r = sheet::read(
-        text,
-        front::values_mut(&mut plane, n),
-        front::bytes_mut(&mut coverings, b),
-    );
-    Left {
-        answer: told(r),
-        values: plane,
-        samples: [0; 65],
-        coverings: coverings,
-        scratch: [0; 65],
-    }
-}
-
-fn read_by_plain(text: &[u8], n: usize, b: usize) -> Left {
-    let mut plane = [7i64; 65];
-    let mut coverings = [9u8; 6];
-    let r = plain_text::reading::read(
-        text,
-        front::values_mut(&mut plane, n),
-        front::bytes_mut(&mut coverings, b),
-    );
-    Left {
-        answer: r,
-        values: plane,
-        samples: [0; 65],
-        coverings: coverings,
-        scratch: [0; 65],
-    }
+pub fn of_reading(r: Result<Sheet, Refusal>) -> Answer<Frame> {
+    of_coder(r).map(|sheet| Frame::new(sheet.height, sheet.width, sheet.levels))
 }
 
 // Both read a text, into slices of these lengths.
-pub fn read_text(text: &[u8], n: usize, b: usize) -> Pair {
-    pair(read_by_coder(text, n, b), read_by_plain(text, n, b))
+pub fn read_text(text: &[u8], n: usize, b: usize) -> Pair<Frame> {
+    compare(
+        Room::new(),
+        |room| {
+            of_reading(sheet::read(
+                text,
+                first_mut(&mut room.values, n),
+                first_mut(&mut room.coverings, b),
+            ))
+        },
+        |room| {
+            of_plain(plain_text::reading::read(
+                text,
+                first_mut(&mut room.values, n),
+                first_mut(&mut room.coverings, b),
+            ))
+        },
+    )
 }
 
 // Both read the sheet of the plane. It is put down by the second implementation without any check, so that it may hold what a reader refuses.
-pub fn read(k: Plane) -> Pair {
-    let plane = plane_of(k);
-    let coverings = [k.covering; 6];
-    let mut text = [0u8; 256];
-    let extent = Extent {
-        height: k.height,
-        width: k.width,
-    };
-    let end = plain_text::writing::put_sheet(extent, k.levels, &plane, &coverings, &mut text);
-    read_text(front::bytes(&text, end), k.plane, k.coverings)
+pub fn read(k: Plane) -> Pair<Frame> {
+    let frame = Frame::new(k.height, k.width, k.levels);
+    let mut text = [0; 256];
+    let end = plain_text::writing::put_sheet(frame, &plane_of(k), &[k.covering; 6], &mut text);
+    read_text(first(&text, end), k.plane, k.coverings)
 }

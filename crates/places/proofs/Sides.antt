@@ -1,12 +1,12 @@
 -- The height, the width and the levels that the checks 1 and 2 let through. Assumes nothing.
+use Rattle.refusals.specs.declared.Refusal.{Refusal}
+use Rattle.std.specs.Prelude.{Result, Ok, ⊤}
 use mathlib.Core.Path.{◌≡◌, sym, subst}
 use mathlib.Core.Bool.{true}
 use Prim.Native.Nat.{ℕ, ◌*◌, ◌≤◌}
 use native.Mathlib.Nat.{mul-le-mul}
 use lib.Dec.{T}
 use Rattle.refusals.specs.Refusal.{answer_of, after_call}
-use Rattle.refusals.specs.declared.Answer.{Answer}
-use Rattle.refusals.specs.declared.Answer.TheVariants.{Done}
 use Rattle.refusals.proofs.After.{past, front_passed}
 use Rattle.pyramid.specs.Plane.{Fits}
 use Rattle.pyramid.specs.Sides.{is_sides, is_depth}
@@ -52,5 +52,5 @@ size_past h w R e =
     let b = past (is_depth R h w) 1 a.1 in
     (passed h w R a.0 b.0, b.1)
 
-pub size_passed : (h w R : ℕ) {a : Answer} → a ≡ Done → ((rest : ℕ) → size_refusal h w R rest ≡ after_call (answer_of a) rest (answer_of a)) → Passed h w R
+pub size_passed : (h w R : ℕ) {a : Result ⊤ Refusal} → a ≡ (Ok tt) → ((rest : ℕ) → size_refusal h w R rest ≡ after_call (answer_of a) rest (answer_of a)) → Passed h w R
 size_passed h w R e f = (size_past h w R (front_passed 0 e (f 0))).0

@@ -11,7 +11,7 @@ ghost use Rattle.places.specs.Walk.{Inside, entry_of};
 ghost use Rattle.places.specs.Walk.{index_in};
 
 use crate::walk::Walk;
-use refusals::{Answer, Refusal};
+use refusals::Refusal;
 
 // Whether n is a side: a height or a width.
 pub fn is_side(n: usize) -> bool
@@ -35,17 +35,10 @@ fn reaches(levels: usize, side: usize) -> bool
     requires { side ≤ 512 }
     ensures { result ≡ (leb 1 levels && leb (2 ^ suc levels) side) }
 {
-    match levels {
-        1 => 4 <= side,
-        2 => 8 <= side,
-        3 => 16 <= side,
-        4 => 32 <= side,
-        5 => 64 <= side,
-        6 => 128 <= side,
-        7 => 256 <= side,
-        8 => 512 <= side,
-        _ => false,
+    if levels < 1 || 8 < levels {
+        return false;
     }
+    2usize << levels <= side
 }
 
 // Whether a plane of this height and width has so many levels.
@@ -58,16 +51,16 @@ pub fn is_depth(levels: usize, height: usize, width: usize) -> bool
 
 // The checks 1 and 2, with which each list of a picture or a plane begins; `rest` is what the checks behind them give.
 // Two wrong answers that the contract rules out: 2 for 8 by 12 with no levels; accepting 64 by 8 with 3 levels.
-pub fn size_checks(height: usize, width: usize, levels: usize) -> Answer
+pub fn size_checks(height: usize, width: usize, levels: usize) -> Result<(), Refusal>
     ensures { (rest : ℕ) → size_refusal height width levels rest ≡ after_call (answer_of result) rest (answer_of result) }
 {
     if !are_sides(height, width) {
-        return Answer::Refused(Refusal::Side);
+        return Err(Refusal::Side);
     }
     if !is_depth(levels, height, width) {
-        return Answer::Refused(Refusal::Depth);
+        return Err(Refusal::Depth);
     }
-    Answer::Done
+    Ok(())
 }
 
 // The number of blocks of all levels.
@@ -78,12 +71,10 @@ pub fn count_blocks(levels: usize, height: usize, width: usize) -> usize
     let mut total: usize = 0;
     let mut h = height;
     let mut w = width;
-    let mut left = levels;
-    while 0 < left {
+    for _ in 0..levels {
         total += (w / 4) * (h / 4);
-        h = h / 2;
-        w = w / 2;
-        left -= 1;
+        h /= 2;
+        w /= 2;
     }
     total
 }
@@ -92,18 +83,7 @@ pub fn count_blocks(levels: usize, height: usize, width: usize) -> usize
 pub fn all_numbers(coverings: &[u8]) -> bool
     ensures { result ≡ every is_number coverings.now }
 {
-    let mut i = 0;
-    while i < coverings.len() {
-        let c = coverings[i];
-        if c < 1 {
-            return false;
-        }
-        if 117 < c {
-            return false;
-        }
-        i += 1;
-    }
-    true
+    coverings.iter().all(|c| 1 <= *c && *c <= 117)
 }
 
 // 4 to the power r. Two wrong answers that the contract rules out: 0 for r 0, and 4 times r.
@@ -111,18 +91,7 @@ pub fn power(r: u32) -> u64
     requires { r ≤ 9 }
     ensures { result ≡ 4 ^ r }
 {
-    match r {
-        0 => 1,
-        1 => 4,
-        2 => 16,
-        3 => 64,
-        4 => 256,
-        5 => 1024,
-        6 => 4096,
-        7 => 16384,
-        8 => 65536,
-        _ => 262144,
-    }
+    4u64.pow(r)
 }
 
 // Whether a value at a level and a band is in its range.

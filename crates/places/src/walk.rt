@@ -10,6 +10,7 @@ pub struct Walk {
     pub level: u32,
     pub left: u32,
     // The band, and the row and the column in it.
+    // Kept: a number, for `step` counts it on, and `Place` in the specs of pyramid has it so.
     pub band: u32,
     pub row: u32,
     pub col: u32,
@@ -28,54 +29,31 @@ pub fn step(k: Walk, height: u32, width: u32) -> Walk
 {
     if k.row + 1 < k.height {
         return Walk {
-            level: k.level,
-            left: k.left,
-            band: k.band,
             row: k.row + 1,
-            col: k.col,
-            height: k.height,
-            width: k.width,
-            low: k.low,
-            first: k.first,
+            ..k
         };
     }
     if k.col + 1 < k.width {
         return Walk {
-            level: k.level,
-            left: k.left,
-            band: k.band,
             row: 0,
             col: k.col + 1,
-            height: k.height,
-            width: k.width,
-            low: k.low,
-            first: k.first,
+            ..k
         };
     }
     if k.band < 3 {
         return Walk {
-            level: k.level,
-            left: k.left,
             band: k.band + 1,
             row: 0,
             col: 0,
-            height: k.height,
-            width: k.width,
-            low: k.low,
-            first: k.first,
+            ..k
         };
     }
     if k.left == 1 {
         return Walk {
-            level: k.level,
             left: 0,
-            band: k.band,
             row: 0,
             col: 0,
-            height: k.height,
-            width: k.width,
-            low: k.low,
-            first: k.first,
+            ..k
         };
     }
     if k.left == 2 {
@@ -87,8 +65,7 @@ pub fn step(k: Walk, height: u32, width: u32) -> Walk
             col: 0,
             height: k.height / 2,
             width: k.width / 2,
-            low: k.low,
-            first: k.first,
+            ..k
         };
     }
     Walk {
@@ -99,8 +76,7 @@ pub fn step(k: Walk, height: u32, width: u32) -> Walk
         col: 0,
         height: k.height / 2,
         width: k.width / 2,
-        low: k.low,
-        first: k.first,
+        ..k
     }
 }
 
@@ -110,23 +86,10 @@ pub fn first_entry(height: u32, width: u32, levels: u32) -> Walk
     ensures inside { Inside height width result }
     ensures result_value { entries_left result ≡ plane_places levels height width }
 {
-    if levels == 1 {
-        return Walk {
-            level: 1,
-            left: levels,
-            band: 0,
-            row: 0,
-            col: 0,
-            height: height / 2,
-            width: width / 2,
-            low: 0,
-            first: 1,
-        };
-    }
     Walk {
         level: 1,
         left: levels,
-        band: 1,
+        band: if levels == 1 { 0 } else { 1 },
         row: 0,
         col: 0,
         height: height / 2,

@@ -1,35 +1,26 @@
 // The test image of a start.
-use plain_frame::frame::{Extent, area, size_refusal};
-use plain_frame::safe::put_sample;
+use plain_frame::frame::Frame;
+use plain_frame::refusal::Refusal;
 
 // The next state, by a product of 64 bits.
-fn step(s: u64) -> u64 {
-    (s % 4294967296 * 1664525 + 1013904223) % 4294967296
-}
-
-fn fill(start: u32, samples: &mut [u16]) {
-    let mut s = start as u64;
-    let mut i: usize = 0;
-    while i < samples.len() {
-        s = step(s);
-        put_sample(samples, i, s / 1048576);
-        i += 1;
-    }
+fn step(s: u32) -> u32 {
+    ((u64::from(s) * 1664525 + 1013904223) % 4294967296) as u32
 }
 
 // Check 1 is that of a picture with one level, which every height and width allow; then check 3.
-pub fn test_image(height: usize, width: usize, start: u32, samples: &mut [u16]) -> u32 {
-    let extent = Extent {
-        height: height,
-        width: width,
-    };
-    let bad = size_refusal(extent, 1);
-    if bad != 0 {
-        return bad;
+pub fn test_image(
+    height: usize,
+    width: usize,
+    start: u32,
+    samples: &mut [u16],
+) -> Result<(), Refusal> {
+    let frame = Frame::new(height, width, 1);
+    frame.check()?;
+    Refusal::Length.unless(samples.len() == frame.area())?;
+    let mut state = start;
+    for sample in samples {
+        state = step(state);
+        *sample = (state / 1048576) as u16;
     }
-    if samples.len() != area(extent) {
-        return 3;
-    }
-    fill(start, samples);
-    0
+    Ok(())
 }

@@ -6,7 +6,7 @@
 //
 // The entries: `tiles::list_words` and, lent its words, `tiles::pieces`, `pyramid::decompose`, `pyramid::decompose_within`, `pyramid::decompose_listed`,
 // `pyramid::restore`, `pyramid::restore_listed`, `masters::restore_master`, `windows::window` and `smoothing::smooth`; `cut::keep` and `cut::cut`; `strips::join`;
-// `generated::test_image`. A refusal is its number, and 0 stands for accepted; `cut` answers with an `Outcome`, which has a count beside it. Texts are in
+// `generated::test_image`. Each is refused by a `Refusal` of `plain_frame`; those of `cut` give a count. Texts are in
 // `plain_text`, the cutter in `plain_cutter`.
 #![tactic(auto)]
 

@@ -1,119 +1,39 @@
 // Decomposing and restoring a picture, level by level.
-use crate::block::{Corner, Four, best_labels, cell_index, label, piece_result, signs};
+use crate::block::{Corner, best_labels, label, piece_result, signs};
 use crate::choice::{Rule, choose_by, every_covering};
 use crate::tiles::piece_at;
-use plain_frame::frame::{
-    Extent, Spot, area, band_of, block_in_level, blocks_before, contents, is_list, lengths,
-    level_blocks, listed_contents, power,
-};
-use plain_frame::safe::{
-    add, byte_at, clear, minus, over, plus, put_byte, put_sample, put_value, rest, sample_at, size,
-    times, value_at,
-};
+use plain_frame::frame::{Extent, Frame, Spot, is_list, power};
+use plain_frame::refusal::Refusal;
+use plain_frame::safe::{add, at, over, plus, put, put_sample, size, times};
 
 // Copies the upper left part that a level is about, the whole plane for level 1.
 pub fn copy_image(from: &[i64], to: &mut [i64], extent: Extent, level: usize) {
-    let n = band_of(extent, minus(level, 1));
-    let end = area(n);
-    let mut i: usize = 0;
-    while i < end {
-        let j = plus(times(over(i, n.height), extent.height), rest(i, n.height));
-        put_value(to, j, value_at(from, j));
-        i += 1;
-    }
-}
-
-fn all_samples(samples: &[u16]) -> bool {
-    let mut i: usize = 0;
-    while i < samples.len() {
-        if 4095 < sample_at(samples, i) {
-            return false;
+    let part = extent.band(level.saturating_sub(1));
+    for col in 0..part.width {
+        for row in 0..part.height {
+            let cell = extent.cell(row, col);
+            put(to, cell, at(from, cell, 0));
         }
-        i += 1;
-    }
-    true
-}
-
-fn load(samples: &[u16], plane: &mut [i64]) {
-    let mut i: usize = 0;
-    while i < samples.len() {
-        put_value(plane, i, sample_at(samples, i));
-        i += 1;
     }
 }
 
-// Row and column, in a band, of the label's place in the result of a block.
-fn result_row(block_row: usize, label: u32) -> usize {
-    let lower = label % 2;
-    plus(times(2, block_row), lower as usize)
-}
-
-fn result_col(block_col: usize, label: u32) -> usize {
-    let right = label / 2;
-    plus(times(2, block_col), right as usize)
-}
-
-fn put_at(plane: &mut [i64], height: usize, row: usize, col: usize, v: i64) {
-    put_value(plane, plus(times(col, height), row), v);
-}
-
-pub fn get_at(plane: &[i64], height: usize, row: usize, col: usize) -> i64 {
-    value_at(plane, plus(times(col, height), row))
-}
-
-fn put_four(plane: &mut [i64], height: usize, half: Extent, row: usize, col: usize, w: Four) {
+// The places in the plane of the four results of a block's piece with this label: the low-pass, and right of it, below it and both the tetrolet coefficients.
+fn result_places(extent: Extent, p: Spot, label: u32) -> [usize; 4] {
+    let half = extent.band(p.level);
+    let row = plus(times(2, p.row), (label % 2) as usize);
+    let col = plus(times(2, p.col), (label / 2) as usize);
     let below = plus(row, half.height);
     let right = plus(col, half.width);
-    put_at(plane, height, row, col, w.a);
-    put_at(plane, height, row, right, w.b);
-    put_at(plane, height, below, col, w.c);
-    put_at(plane, height, below, right, w.d);
+    [
+        extent.cell(row, col),
+        extent.cell(row, right),
+        extent.cell(below, col),
+        extent.cell(below, right),
+    ]
 }
 
-fn get_four(plane: &[i64], height: usize, half: Extent, row: usize, col: usize) -> Four {
-    let below = plus(row, half.height);
-    let right = plus(col, half.width);
-    Four {
-        met: 4,
-        a: get_at(plane, height, row, col),
-        b: get_at(plane, height, row, right),
-        c: get_at(plane, height, below, col),
-        d: get_at(plane, height, below, right),
-    }
-}
-
-// The corner in the plane of the block at this place.
-fn corner(height: usize, p: Spot) -> Corner {
-    Corner {
-        height: height,
-        top: times(4, p.row),
-        left: times(4, p.col),
-    }
-}
-
-// Stores the results of a block's piece with this label.
-fn put_result(plane: &mut [i64], extent: Extent, p: Spot, s: u32, w: Four) {
-    put_four(
-        plane,
-        extent.height,
-        band_of(extent, p.level),
-        result_row(p.row, s),
-        result_col(p.col, s),
-        w,
-    );
-}
-
-fn get_result(plane: &[i64], extent: Extent, p: Spot, s: u32) -> Four {
-    get_four(
-        plane,
-        extent.height,
-        band_of(extent, p.level),
-        result_row(p.row, s),
-        result_col(p.col, s),
-    )
-}
-
-fn split_pieces(
+// Decomposes a block by its covering.
+fn split_block(
     words: &[u8],
     covering: u8,
     image: &[i64],
@@ -122,31 +42,16 @@ fn split_pieces(
     p: Spot,
 ) {
     let labels = best_labels(words, covering);
-    let mut piece: u8 = 0;
-    while piece < 4 {
-        let w = piece_result(words, covering, piece, image, corner(extent.height, p));
-        put_result(plane, extent, p, label(labels, piece), w);
-        piece += 1;
+    for piece in 0u8..4 {
+        let results = piece_result(words, covering, piece, image, Corner::of(extent, p));
+        let places = result_places(extent, p, label(labels, piece));
+        for (place, result) in places.iter().zip(results) {
+            put(plane, *place, result);
+        }
     }
 }
 
-// Chooses the covering of a block, which stands in the image.
-fn choose_block(
-    words: &[u8],
-    list: &[u8],
-    rule: Rule,
-    image: &[i64],
-    coverings: &mut [u8],
-    extent: Extent,
-    level: usize,
-    n: usize,
-) {
-    let now = plus(blocks_before(extent, level), n);
-    let at = corner(extent.height, block_in_level(extent, level, n));
-    let covering = choose_by(words, list, rule, image, at, coverings, now, level);
-    put_byte(coverings, now, covering);
-}
-
+// Chooses the covering of each block of a level, which stands in the image.
 fn choose_level(
     words: &[u8],
     list: &[u8],
@@ -156,26 +61,33 @@ fn choose_level(
     extent: Extent,
     level: usize,
 ) {
-    let blocks = level_blocks(extent, level);
-    let mut n: usize = 0;
-    while n < blocks {
-        choose_block(words, list, rule, image, coverings, extent, level, n);
-        n += 1;
+    let first = extent.blocks_before(level);
+    for n in 0..extent.level_blocks(level) {
+        let now = plus(first, n);
+        let corner = Corner::of(extent, extent.level_block(level, n));
+        let before = coverings.get(..now).unwrap_or(b"");
+        let covering = choose_by(words, list, rule, image, corner, before, level);
+        put(coverings, now, covering);
     }
 }
 
-fn split_block(
-    words: &[u8],
+// Works on each block of a level by its covering: what the level is about is copied, and from the copy each block is put into the plane anew.
+fn each_block<F: Fn(u8, &[i64], &mut [i64], Spot)>(
     coverings: &[u8],
-    image: &[i64],
     plane: &mut [i64],
+    scratch: &mut [i64],
     extent: Extent,
     level: usize,
-    n: usize,
-) {
-    let covering = byte_at(coverings, plus(blocks_before(extent, level), n));
-    let p = block_in_level(extent, level, n);
-    split_pieces(words, covering, image, plane, extent, p);
+    work: F,
+)
+    requires { F.IsAlwaysCallable work }
+{
+    copy_image(plane, scratch, extent, level);
+    let first = extent.blocks_before(level);
+    for n in 0..extent.level_blocks(level) {
+        let covering = at(coverings, plus(first, n), 0);
+        work(covering, scratch, plane, extent.level_block(level, n));
+    }
 }
 
 // Decomposes a level by its coverings.
@@ -187,33 +99,14 @@ fn split_level(
     extent: Extent,
     level: usize,
 ) {
-    copy_image(plane, scratch, extent, level);
-    let blocks = level_blocks(extent, level);
-    let mut n: usize = 0;
-    while n < blocks {
-        split_block(words, coverings, scratch, plane, extent, level, n);
-        n += 1;
-    }
-}
-
-// Decomposes what stands in the plane: of each level the coverings are chosen first.
-fn split(
-    words: &[u8],
-    list: &[u8],
-    rule: Rule,
-    extent: Extent,
-    levels: usize,
-    plane: &mut [i64],
-    scratch: &mut [i64],
-    coverings: &mut [u8],
-) {
-    let mut level: usize = 0;
-    while level < levels {
-        level += 1;
-        choose_level(words, list, rule, plane, coverings, extent, level);
-        split_level(words, coverings, plane, scratch, extent, level);
-    }
-    clear(scratch);
+    each_block(
+        coverings,
+        plane,
+        scratch,
+        extent,
+        level,
+        |covering, image, plane, p| split_block(words, covering, image, plane, extent, p),
+    );
 }
 
 // Decomposes what stands in the plane by given coverings.
@@ -222,40 +115,51 @@ pub fn split_by(
     coverings: &[u8],
     plane: &mut [i64],
     scratch: &mut [i64],
-    extent: Extent,
-    levels: usize,
+    frame: Frame,
 ) {
-    let mut level: usize = 0;
-    while level < levels {
-        level += 1;
-        split_level(words, coverings, plane, scratch, extent, level);
+    for level in 1..plus(frame.levels, 1) {
+        split_level(words, coverings, plane, scratch, frame.extent, level);
     }
-    clear(scratch);
+    scratch.fill(0);
 }
 
 // Checks 1 to 4; the last three are the lengths of their slices.
-fn decompose_refusal(
-    extent: Extent,
-    levels: usize,
+fn check_picture(
+    frame: Frame,
     samples: &[u16],
     plane: usize,
     coverings: usize,
     scratch: usize,
-) -> u32 {
-    let bad = lengths(extent, levels, plane, coverings);
-    if bad != 0 {
-        return bad;
+) -> Result<(), Refusal> {
+    frame.check_lengths(plane, coverings)?;
+    Refusal::Length.unless(samples.len() == plane && scratch == plane)?;
+    Refusal::Sample.unless(samples.iter().all(|sample| *sample <= 4095))
+}
+
+// Decomposes a picture by the coverings of a list, if the slices are long enough and there is a rule: of each level the coverings are chosen first.
+fn decompose_by<F: FnOnce() -> Result<Rule, Refusal>>(
+    words: &[u8],
+    list: &[u8],
+    rule: F,
+    frame: Frame,
+    samples: &[u16],
+    plane: &mut [i64],
+    coverings: &mut [u8],
+    scratch: &mut [i64],
+) -> Result<(), Refusal>
+    requires { F.IsAlwaysCallable rule }
+{
+    check_picture(frame, samples, plane.len(), coverings.len(), scratch.len())?;
+    let rule = rule()?;
+    for (value, sample) in plane.iter_mut().zip(samples) {
+        *value = i64::from(*sample);
     }
-    if samples.len() != plane {
-        return 3;
+    for level in 1..plus(frame.levels, 1) {
+        choose_level(words, list, rule, plane, coverings, frame.extent, level);
+        split_level(words, coverings, plane, scratch, frame.extent, level);
     }
-    if scratch != plane {
-        return 3;
-    }
-    if !all_samples(samples) {
-        return 4;
-    }
-    0
+    scratch.fill(0);
+    Ok(())
 }
 
 // Decomposes a picture without a tolerance. `words` are those of `list_words`.
@@ -268,55 +172,13 @@ pub fn decompose(
     plane: &mut [i64],
     coverings: &mut [u8],
     scratch: &mut [i64],
-) -> u32 {
-    let extent = Extent {
-        height: height,
-        width: width,
-    };
-    let bad = decompose_refusal(
-        extent,
-        levels,
-        samples,
-        plane.len(),
-        coverings.len(),
-        scratch.len(),
-    );
-    if bad != 0 {
-        return bad;
-    }
-    load(samples, plane);
+) -> Result<(), Refusal> {
+    let frame = Frame::new(height, width, levels);
     let list = every_covering();
-    split(
-        words,
-        &list,
-        Rule::Least,
-        extent,
-        levels,
-        plane,
-        scratch,
-        coverings,
-    );
-    0
-}
-
-// The same, and check 13.
-fn within_refusal(
-    extent: Extent,
-    levels: usize,
-    tolerance: u64,
-    samples: &[u16],
-    plane: usize,
-    coverings: usize,
-    scratch: usize,
-) -> u32 {
-    let bad = decompose_refusal(extent, levels, samples, plane, coverings, scratch);
-    if bad != 0 {
-        return bad;
-    }
-    if 4095 < tolerance {
-        return 13;
-    }
-    0
+    let rule = || Ok(Rule::Least);
+    decompose_by(
+        words, &list, rule, frame, samples, plane, coverings, scratch,
+    )
 }
 
 // Decomposes a picture with a tolerance. `words` are those of `list_words`.
@@ -330,59 +192,11 @@ pub fn decompose_within(
     plane: &mut [i64],
     coverings: &mut [u8],
     scratch: &mut [i64],
-) -> u32 {
-    let extent = Extent {
-        height: height,
-        width: width,
-    };
-    let bad = within_refusal(
-        extent,
-        levels,
-        tolerance,
-        samples,
-        plane.len(),
-        coverings.len(),
-        scratch.len(),
-    );
-    if bad != 0 {
-        return bad;
-    }
-    load(samples, plane);
+) -> Result<(), Refusal> {
     let list = every_covering();
-    split(
-        words,
-        &list,
-        Rule::Within(tolerance),
-        extent,
-        levels,
-        plane,
-        scratch,
-        coverings,
-    );
-    0
-}
-
-// The same, and check 14.
-fn listed_refusal(
-    extent: Extent,
-    levels: usize,
-    tolerance: u64,
-    samples: &[u16],
-    list: &[u8],
-    plane: usize,
-    coverings: usize,
-    scratch: usize,
-) -> u32 {
-    let bad = within_refusal(
-        extent, levels, tolerance, samples, plane, coverings, scratch,
-    );
-    if bad != 0 {
-        return bad;
-    }
-    if !is_list(list) {
-        return 14;
-    }
-    0
+    decompose_listed(
+        words, height, width, levels, tolerance, samples, &list, plane, coverings, scratch,
+    )
 }
 
 // Decomposes a picture by the coverings of a list, with a tolerance. `words` are those of `list_words`.
@@ -397,46 +211,22 @@ pub fn decompose_listed(
     plane: &mut [i64],
     coverings: &mut [u8],
     scratch: &mut [i64],
-) -> u32 {
-    let extent = Extent {
-        height: height,
-        width: width,
+) -> Result<(), Refusal> {
+    let frame = Frame::new(height, width, levels);
+    let rule = || {
+        Refusal::Tolerance.unless(tolerance <= 4095)?;
+        Refusal::List.unless(is_list(list))?;
+        Ok(Rule::Within(tolerance as usize))
     };
-    let bad = listed_refusal(
-        extent,
-        levels,
-        tolerance,
-        samples,
-        list,
-        plane.len(),
-        coverings.len(),
-        scratch.len(),
-    );
-    if bad != 0 {
-        return bad;
-    }
-    load(samples, plane);
-    split(
-        words,
-        list,
-        Rule::Within(tolerance),
-        extent,
-        levels,
-        plane,
-        scratch,
-        coverings,
-    );
-    0
+    decompose_by(words, list, rule, frame, samples, plane, coverings, scratch)
 }
 
 // v times 4^n.
 pub fn weighted(v: i64, n: usize) -> i64 {
     let mut sum = v;
-    let mut i: usize = 0;
-    while i < n {
+    for _ in 0..n {
         let double = add(sum, sum);
         sum = add(double, double);
-        i += 1;
     }
     sum
 }
@@ -444,228 +234,95 @@ pub fn weighted(v: i64, n: usize) -> i64 {
 // How many cells before this one belong to its piece.
 fn earlier(words: &[u8], covering: u8, cell: usize) -> usize {
     let piece = piece_at(words, covering, cell);
-    let mut n: usize = 0;
-    let mut i: usize = 0;
-    while i < cell {
-        if piece_at(words, covering, i) == piece {
-            n = plus(n, 1);
-        }
-        i += 1;
-    }
-    n
+    (0..cell)
+        .filter(|other| piece_at(words, covering, *other) == piece)
+        .count()
 }
 
-fn pick(q: Four, n: usize) -> i64 {
-    if n == 0 {
-        return q.a;
-    }
-    if n == 1 {
-        return q.b;
-    }
-    if n == 2 {
-        return q.c;
-    }
-    q.d
-}
-
-fn weighted_four(q: Four, n: usize) -> Four {
-    Four {
-        met: 4,
-        a: q.a,
-        b: weighted(q.b, n),
-        c: weighted(q.c, n),
-        d: weighted(q.d, n),
-    }
-}
-
-fn join_cell(
-    words: &[u8],
-    covering: u8,
-    labels: u32,
-    cell: usize,
-    image: &[i64],
-    extent: Extent,
-    levels: usize,
-    p: Spot,
-) -> i64 {
-    let s = label(labels, piece_at(words, covering, cell));
-    let w = get_result(image, extent, p, s);
-    let q = signs(weighted_four(w, minus(levels, p.level)));
-    pick(q, earlier(words, covering, cell))
-}
-
-fn join_cells(
-    words: &[u8],
-    covering: u8,
-    image: &[i64],
-    plane: &mut [i64],
-    extent: Extent,
-    levels: usize,
-    p: Spot,
-) {
+// Restores a block by its covering.
+fn join_block(words: &[u8], covering: u8, image: &[i64], plane: &mut [i64], frame: Frame, p: Spot) {
     let labels = best_labels(words, covering);
-    let mut cell: usize = 0;
-    while cell < 16 {
-        let v = join_cell(words, covering, labels, cell, image, extent, levels, p);
-        put_value(plane, cell_index(corner(extent.height, p), cell), v);
-        cell += 1;
+    let corner = Corner::of(frame.extent, p);
+    let left = frame.levels.saturating_sub(p.level);
+    for cell in 0usize..16 {
+        let label = label(labels, piece_at(words, covering, cell));
+        let [low, b, c, d] = result_places(frame.extent, p, label).map(|place| at(image, place, 0));
+        let values = signs([low, weighted(b, left), weighted(c, left), weighted(d, left)]);
+        let number = earlier(words, covering, cell).min(3);
+        put(plane, corner.cell(cell), at(&values, number, 0));
     }
 }
 
-fn join_block(
+// The numerators of a plane: the levels are joined from the deepest on.
+pub fn put_numerators(
     words: &[u8],
+    frame: Frame,
+    plane: &[i64],
     coverings: &[u8],
-    image: &[i64],
-    plane: &mut [i64],
-    extent: Extent,
-    levels: usize,
-    level: usize,
-    n: usize,
-) {
-    let covering = byte_at(coverings, plus(blocks_before(extent, level), n));
-    let p = block_in_level(extent, level, n);
-    join_cells(words, covering, image, plane, extent, levels, p);
-}
-
-fn join_level(
-    words: &[u8],
-    coverings: &[u8],
-    plane: &mut [i64],
     scratch: &mut [i64],
-    extent: Extent,
-    levels: usize,
-    level: usize,
+    numerators: &mut [i64],
 ) {
-    copy_image(plane, scratch, extent, level);
-    let blocks = level_blocks(extent, level);
-    let mut n: usize = 0;
-    while n < blocks {
-        join_block(words, coverings, scratch, plane, extent, levels, level, n);
-        n += 1;
-    }
-}
-
-fn join(
-    words: &[u8],
-    coverings: &[u8],
-    plane: &mut [i64],
-    scratch: &mut [i64],
-    extent: Extent,
-    levels: usize,
-) {
-    let mut done: usize = 0;
-    while done < levels {
-        join_level(
-            words,
+    copy_image(plane, numerators, frame.extent, 1);
+    for level in (1..plus(frame.levels, 1)).rev() {
+        each_block(
             coverings,
-            plane,
+            numerators,
             scratch,
-            extent,
-            levels,
-            minus(levels, done),
+            frame.extent,
+            level,
+            |covering, image, plane, p| join_block(words, covering, image, plane, frame, p),
         );
-        done += 1;
     }
-    clear(scratch);
+    scratch.fill(0);
 }
 
 // The numerator over 4^levels, to the nearest, halves upward, held to 0 and 4095. A numerator below 0 gives 0.
-fn rounded(numerator: i64, levels: usize) -> u64 {
-    if numerator < 0 {
-        return 0;
-    }
+fn rounded(numerator: i64, levels: usize) -> usize {
     let whole = power(times(2, levels));
-    let up = size(numerator) as usize;
-    let sample = over(plus(up, whole / 2), whole);
-    if sample < 4096 { sample as u64 } else { 4095 }
-}
-
-fn round_all(numerators: &[i64], samples: &mut [u16], levels: usize) {
-    let mut i: usize = 0;
-    while i < numerators.len() {
-        put_sample(samples, i, rounded(value_at(numerators, i), levels));
-        i += 1;
-    }
+    let up = size(numerator.max(0));
+    over(plus(up, whole / 2), whole).min(4095)
 }
 
 // Checks 1 to 3; the last five are the lengths of their slices.
-fn restore_lengths(
-    extent: Extent,
-    levels: usize,
+pub fn check_restored(
+    frame: Frame,
     plane: usize,
     coverings: usize,
     scratch: usize,
     numerators: usize,
     samples: usize,
-) -> u32 {
-    let bad = lengths(extent, levels, plane, coverings);
-    if bad != 0 {
-        return bad;
-    }
-    if scratch != plane {
-        return 3;
-    }
-    if numerators != plane {
-        return 3;
-    }
-    if samples != plane {
-        return 3;
-    }
-    0
+) -> Result<(), Refusal> {
+    frame.check_lengths(plane, coverings)?;
+    Refusal::Length.unless([scratch, numerators, samples] == [plane; 3])
 }
 
-// The numerators of a plane.
-pub fn put_numerators(
+// The numerators and the samples of a plane, if the slices are long enough and what they hold is accepted.
+fn restore_checked<F: FnOnce() -> Result<(), Refusal>>(
     words: &[u8],
-    extent: Extent,
-    levels: usize,
-    plane: &[i64],
-    coverings: &[u8],
-    scratch: &mut [i64],
-    numerators: &mut [i64],
-) {
-    copy_image(plane, numerators, extent, 1);
-    join(words, coverings, numerators, scratch, extent, levels);
-}
-
-// The numerators and the samples of a plane.
-fn restore_all(
-    words: &[u8],
-    extent: Extent,
-    levels: usize,
+    frame: Frame,
     plane: &[i64],
     coverings: &[u8],
     scratch: &mut [i64],
     numerators: &mut [i64],
     samples: &mut [u16],
-) {
-    put_numerators(words, extent, levels, plane, coverings, scratch, numerators);
-    round_all(numerators, samples, levels);
-}
-
-// Checks 1, 2, 3, 5 and 6; the last three are the lengths of their slices.
-pub fn restore_refusal(
-    extent: Extent,
-    levels: usize,
-    plane: &[i64],
-    coverings: &[u8],
-    scratch: usize,
-    numerators: usize,
-    samples: usize,
-) -> u32 {
-    let bad = restore_lengths(
-        extent,
-        levels,
+    check: F,
+) -> Result<(), Refusal>
+    requires { F.IsAlwaysCallable check }
+{
+    check_restored(
+        frame,
         plane.len(),
         coverings.len(),
-        scratch,
-        numerators,
-        samples,
-    );
-    if bad != 0 {
-        return bad;
+        scratch.len(),
+        numerators.len(),
+        samples.len(),
+    )?;
+    check()?;
+    put_numerators(words, frame, plane, coverings, scratch, numerators);
+    for (i, numerator) in numerators.iter().enumerate() {
+        put_sample(samples, i, rounded(*numerator, frame.levels));
     }
-    contents(extent, levels, plane, coverings)
+    Ok(())
 }
 
 // Restores a picture from its plane. `words` are those of `list_words`.
@@ -679,53 +336,18 @@ pub fn restore(
     scratch: &mut [i64],
     numerators: &mut [i64],
     samples: &mut [u16],
-) -> u32 {
-    let extent = Extent {
-        height: height,
-        width: width,
-    };
-    let bad = restore_refusal(
-        extent,
-        levels,
+) -> Result<(), Refusal> {
+    let frame = Frame::new(height, width, levels);
+    restore_checked(
+        words,
+        frame,
         plane,
         coverings,
-        scratch.len(),
-        numerators.len(),
-        samples.len(),
-    );
-    if bad != 0 {
-        return bad;
-    }
-    restore_all(
-        words, extent, levels, plane, coverings, scratch, numerators, samples,
-    );
-    0
-}
-
-// Checks 1, 2, 3, 14, 5, 18 and 6; the last three are the lengths of their slices.
-fn restore_listed_refusal(
-    extent: Extent,
-    levels: usize,
-    plane: &[i64],
-    coverings: &[u8],
-    list: &[u8],
-    scratch: usize,
-    numerators: usize,
-    samples: usize,
-) -> u32 {
-    let bad = restore_lengths(
-        extent,
-        levels,
-        plane.len(),
-        coverings.len(),
         scratch,
         numerators,
         samples,
-    );
-    if bad != 0 {
-        return bad;
-    }
-    listed_contents(extent, levels, plane, coverings, list)
+        || { frame.check_contents(plane, coverings) },
+    )
 }
 
 // Restores a picture from its plane, with a list in which each covering stands. `words` are those of `list_words`.
@@ -740,26 +362,16 @@ pub fn restore_listed(
     scratch: &mut [i64],
     numerators: &mut [i64],
     samples: &mut [u16],
-) -> u32 {
-    let extent = Extent {
-        height: height,
-        width: width,
-    };
-    let bad = restore_listed_refusal(
-        extent,
-        levels,
+) -> Result<(), Refusal> {
+    let frame = Frame::new(height, width, levels);
+    restore_checked(
+        words,
+        frame,
         plane,
         coverings,
-        list,
-        scratch.len(),
-        numerators.len(),
-        samples.len(),
-    );
-    if bad != 0 {
-        return bad;
-    }
-    restore_all(
-        words, extent, levels, plane, coverings, scratch, numerators, samples,
-    );
-    0
+        scratch,
+        numerators,
+        samples,
+        || { frame.check_listed(plane, coverings, list) },
+    )
 }

@@ -2,16 +2,19 @@
 // it calls. A slice passes as a pointer and a count of its elements; `words` are those that `plain_words` finds.
 #![tactic(auto)]
 
-use plain_frame::outcome::Outcome;
+use plain_frame::refusal::{Refusal, code};
 
 mod shown;
 
-// The number of an answer; what was asked for goes to `a`, which a refused call leaves as it was.
-fn told(o: Outcome, a: &mut usize) -> u32 {
-    if o.refusal == 0 {
-        *a = o.a;
+// The number of an answer; what was asked for goes to `place`, which a refused call leaves as it was.
+fn told<T: Copy>(answer: Result<T, Refusal>, place: &mut T) -> u32 {
+    match answer {
+        Ok(value) => {
+            *place = value;
+            0
+        }
+        Err(refusal) => u32::from(refusal),
     }
-    o.refusal
 }
 
 // Fills 1,872 places with the words of the 117 coverings.
@@ -22,7 +25,7 @@ pub extern "C" fn plain_words(words: &mut [u8]) {
 
 #[unsafe(no_mangle)]
 pub extern "C" fn plain_word(words: &[u8], covering: u8, word: &mut [u8]) -> u32 {
-    plain::tiles::pieces(words, covering, word)
+    code(plain::tiles::pieces(words, covering, word))
 }
 
 #[unsafe(no_mangle)]
@@ -36,9 +39,9 @@ pub extern "C" fn plain_decompose(
     coverings: &mut [u8],
     scratch: &mut [i64],
 ) -> u32 {
-    plain::pyramid::decompose(
+    code(plain::pyramid::decompose(
         words, height, width, levels, samples, plane, coverings, scratch,
-    )
+    ))
 }
 
 #[unsafe(no_mangle)]
@@ -53,9 +56,9 @@ pub extern "C" fn plain_decompose_within(
     coverings: &mut [u8],
     scratch: &mut [i64],
 ) -> u32 {
-    plain::pyramid::decompose_within(
+    code(plain::pyramid::decompose_within(
         words, height, width, levels, tolerance, samples, plane, coverings, scratch,
-    )
+    ))
 }
 
 #[unsafe(no_mangle)]
@@ -71,9 +74,9 @@ pub extern "C" fn plain_decompose_listed(
     coverings: &mut [u8],
     scratch: &mut [i64],
 ) -> u32 {
-    plain::pyramid::decompose_listed(
+    code(plain::pyramid::decompose_listed(
         words, height, width, levels, tolerance, samples, list, plane, coverings, scratch,
-    )
+    ))
 }
 
 #[unsafe(no_mangle)]
@@ -88,9 +91,9 @@ pub extern "C" fn plain_restore(
     samples: &mut [u16],
     scratch: &mut [i64],
 ) -> u32 {
-    plain::pyramid::restore(
+    code(plain::pyramid::restore(
         words, height, width, levels, plane, coverings, scratch, numerators, samples,
-    )
+    ))
 }
 
 #[unsafe(no_mangle)]
@@ -106,9 +109,9 @@ pub extern "C" fn plain_restore_listed(
     samples: &mut [u16],
     scratch: &mut [i64],
 ) -> u32 {
-    plain::pyramid::restore_listed(
+    code(plain::pyramid::restore_listed(
         words, height, width, levels, plane, coverings, list, scratch, numerators, samples,
-    )
+    ))
 }
 
 // For areas up to 1,024: a larger picture is refused by 3, after 1, 2, 3, 5 and 6.
@@ -124,9 +127,9 @@ pub extern "C" fn plain_restore_master(
     samples: &mut [u16],
     scratch: &mut [i64],
 ) -> u32 {
-    plain::masters::restore_master(
+    code(plain::masters::restore_master(
         words, height, width, levels, plane, coverings, scratch, numerators, samples,
-    )
+    ))
 }
 
 // The last three slices are room: of each the front part, as long as the picture, is used.
@@ -147,10 +150,10 @@ pub extern "C" fn plain_window(
     picture: &mut [u16],
     scratch: &mut [i64],
 ) -> u32 {
-    plain::windows::window(
+    code(plain::windows::window(
         words, height, width, levels, plane, coverings, top, left, tall, wide, samples, numerators,
         picture, scratch,
-    )
+    ))
 }
 
 // The last three slices are room: of each the front part, as long as the picture, is used.
@@ -169,10 +172,10 @@ pub extern "C" fn plain_smooth(
     decomposed: &mut [i64],
     projected: &mut [i64],
 ) -> u32 {
-    plain::smoothing::smooth(
+    code(plain::smoothing::smooth(
         words, height, width, levels, plane, coverings, step, res, scratch, gradient, decomposed,
         projected,
-    )
+    ))
 }
 
 #[unsafe(no_mangle)]
@@ -214,7 +217,7 @@ pub extern "C" fn plain_join(
     plane: &mut [i64],
     coverings: &mut [u8],
 ) -> u32 {
-    plain::strips::join(
+    code(plain::strips::join(
         left_height,
         left_width,
         left_levels,
@@ -227,7 +230,7 @@ pub extern "C" fn plain_join(
         right_coverings,
         plane,
         coverings,
-    )
+    ))
 }
 
 #[unsafe(no_mangle)]
@@ -255,12 +258,13 @@ pub extern "C" fn plain_read(
     width: &mut usize,
     levels: &mut usize,
 ) -> u32 {
-    let o = plain_text::reading::read(text, plane, coverings);
-    if o.refusal == 0 {
-        *width = o.b;
-        *levels = o.c;
+    let answer = plain_text::reading::read(text, plane, coverings);
+    if let Ok(frame) = answer {
+        *height = frame.extent.height;
+        *width = frame.extent.width;
+        *levels = frame.levels;
     }
-    told(o, height)
+    code(answer)
 }
 
 #[unsafe(no_mangle)]
@@ -275,7 +279,7 @@ pub extern "C" fn plain_test_image(
     start: u32,
     samples: &mut [u16],
 ) -> u32 {
-    plain::generated::test_image(height, width, start, samples)
+    code(plain::generated::test_image(height, width, start, samples))
 }
 
 #[unsafe(no_mangle)]
@@ -286,5 +290,6 @@ pub extern "C" fn plain_show(
     samples: &mut [u16],
     found: &mut u8,
 ) -> u32 {
-    shown::show(words, covering, steps, samples, found)
+    let answer = shown::show(words, covering, steps, samples);
+    told(answer.map(u8::from), found)
 }

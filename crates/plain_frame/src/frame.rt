@@ -1,12 +1,6 @@
 // Heights, widths and depths, places of the plane and of the blocks, and the ranges of the plane's entries.
-use crate::safe::{byte_at, minus, over, plus, rest, size, times, value_at};
-
-// The height and the width of a picture, or of a part of it.
-#[derive(Clone, Copy)]
-pub struct Extent {
-    pub height: usize,
-    pub width: usize,
-}
+use crate::refusal::Refusal;
+use crate::safe::{at, over, plus, rest, size, times};
 
 pub fn power(n: usize) -> usize {
     if n < 32 { 1 << n } else { 0 }
@@ -14,120 +8,10 @@ pub fn power(n: usize) -> usize {
 
 // A height or a width.
 fn is_side(side: usize) -> bool {
-    if side == 4 {
-        return true;
-    }
-    if side == 8 {
-        return true;
-    }
-    if side == 16 {
-        return true;
-    }
-    if side == 32 {
-        return true;
-    }
-    if side == 64 {
-        return true;
-    }
-    if side == 128 {
-        return true;
-    }
-    if side == 256 {
-        return true;
-    }
-    side == 512
+    matches!(side, 4 | 8 | 16 | 32 | 64 | 128 | 256 | 512)
 }
 
-// Check 1.
-pub fn is_extent(extent: Extent) -> bool {
-    if !is_side(extent.height) {
-        return false;
-    }
-    is_side(extent.width)
-}
-
-fn smaller(extent: Extent) -> usize {
-    if extent.height < extent.width {
-        extent.height
-    } else {
-        extent.width
-    }
-}
-
-// Check 2. The image that the deepest level splits is at least 4 by 4: 2^(levels + 1) is at most the smaller of height and width.
-pub fn is_depth(extent: Extent, levels: usize) -> bool {
-    if levels < 1 {
-        return false;
-    }
-    if 8 < levels {
-        return false;
-    }
-    power(plus(levels, 1)) <= smaller(extent)
-}
-
-// Checks 1 and 2.
-pub fn size_refusal(extent: Extent, levels: usize) -> u32 {
-    if !is_extent(extent) {
-        return 1;
-    }
-    if !is_depth(extent, levels) {
-        return 2;
-    }
-    0
-}
-
-pub fn area(extent: Extent) -> usize {
-    times(extent.height, extent.width)
-}
-
-// Height and width of a band of a level.
-pub fn band_of(extent: Extent, level: usize) -> Extent {
-    Extent {
-        height: over(extent.height, power(level)),
-        width: over(extent.width, power(level)),
-    }
-}
-
-// The number of blocks of a level.
-pub fn level_blocks(extent: Extent, level: usize) -> usize {
-    area(band_of(extent, plus(level, 1)))
-}
-
-// The number of blocks of the levels below `level`.
-pub fn blocks_before(extent: Extent, level: usize) -> usize {
-    let mut sum: usize = 0;
-    let mut r: usize = 1;
-    while r < level {
-        sum = plus(sum, level_blocks(extent, r));
-        r += 1;
-    }
-    sum
-}
-
-pub fn all_blocks(extent: Extent, levels: usize) -> usize {
-    blocks_before(extent, plus(levels, 1))
-}
-
-// Check 3, for a plane and coverings of these lengths.
-pub fn is_frame(extent: Extent, levels: usize, plane: usize, coverings: usize) -> bool {
-    if plane != area(extent) {
-        return false;
-    }
-    coverings == all_blocks(extent, levels)
-}
-
-// Checks 1 to 3.
-pub fn lengths(extent: Extent, levels: usize, plane: usize, coverings: usize) -> u32 {
-    let bad = size_refusal(extent, levels);
-    if bad != 0 {
-        return bad;
-    }
-    if !is_frame(extent, levels, plane, coverings) {
-        return 3;
-    }
-    0
-}
-
+// A place of the plane, or of a block, whose band is 0.
 #[derive(Clone, Copy)]
 pub struct Spot {
     pub level: usize,
@@ -136,134 +20,215 @@ pub struct Spot {
     pub col: usize,
 }
 
-fn level_entries(extent: Extent, levels: usize, level: usize) -> usize {
-    let one = area(band_of(extent, level));
-    if level == levels {
-        times(4, one)
-    } else {
-        times(3, one)
-    }
+// The height and the width of a picture, or of a part of it.
+#[derive(Clone, Copy, PartialEq, Eq, Debug)]
+pub struct Extent {
+    pub height: usize,
+    pub width: usize,
 }
 
-// The n-th place of a level, in plane order.
-fn place_in_level(extent: Extent, levels: usize, level: usize, n: usize) -> Spot {
-    let m = band_of(extent, level);
-    let first = if level == levels { 0 } else { 1 };
-    let inside = rest(n, area(m));
-    Spot {
-        level: level,
-        band: plus(first, over(n, area(m))),
-        row: rest(inside, m.height),
-        col: over(inside, m.height),
+impl Extent {
+    // Check 1.
+    pub fn has_sides(self) -> bool {
+        is_side(self.height) && is_side(self.width)
     }
-}
 
-// The n-th place of the plane, in plane order.
-pub fn place(extent: Extent, levels: usize, n: usize) -> Spot {
-    let mut left = n;
-    let mut level: usize = 1;
-    while level < levels {
-        let here = level_entries(extent, levels, level);
-        if left < here {
-            return place_in_level(extent, levels, level, left);
+    pub fn area(self) -> usize {
+        times(self.height, self.width)
+    }
+
+    // The place of a cell where the cells stand down columns.
+    pub fn cell(self, row: usize, col: usize) -> usize {
+        plus(times(col, self.height), row)
+    }
+
+    // Height and width of a band of a level.
+    pub fn band(self, level: usize) -> Extent {
+        Extent {
+            height: over(self.height, power(level)),
+            width: over(self.width, power(level)),
         }
-        left = minus(left, here);
-        level += 1;
     }
-    place_in_level(extent, levels, levels, left)
-}
 
-// Where an entry stands in a plane stored down columns: band 1 right of band 0, band 2 below it, band 3 both.
-pub fn index_of(extent: Extent, p: Spot) -> usize {
-    let m = band_of(extent, p.level);
-    let down = if p.band < 2 { 0 } else { m.height };
-    let across = if p.band == 1 {
-        m.width
-    } else {
-        if p.band == 3 { m.width } else { 0 }
-    };
-    plus(times(plus(p.col, across), extent.height), plus(p.row, down))
-}
+    // The number of blocks of a level.
+    pub fn level_blocks(self, level: usize) -> usize {
+        self.band(plus(level, 1)).area()
+    }
 
-pub fn index_at(extent: Extent, levels: usize, n: usize) -> usize {
-    index_of(extent, place(extent, levels, n))
-}
+    // The number of blocks of the levels below `level`.
+    pub fn blocks_before(self, level: usize) -> usize {
+        (1..level).fold(0, |sum, below| plus(sum, self.level_blocks(below)))
+    }
 
-// Whether the level has the band; band 0 is the deepest level's alone.
-fn is_band(levels: usize, level: usize, band: usize) -> bool {
-    if level < 1 {
-        return false;
+    // Where an entry stands in a plane stored down columns: band 1 right of band 0, band 2 below it, band 3 both.
+    pub fn index_of(self, p: Spot) -> usize {
+        let m = self.band(p.level);
+        let down = if p.band < 2 { 0 } else { m.height };
+        let across = if matches!(p.band, 1 | 3) { m.width } else { 0 };
+        self.cell(plus(p.row, down), plus(p.col, across))
     }
-    if levels < level {
-        return false;
-    }
-    if band == 0 {
-        return level == levels;
-    }
-    band < 4
-}
 
-// The number in plane order of a place of the plane, where m is its band.
-fn number_in(extent: Extent, levels: usize, p: Spot, m: Extent) -> usize {
-    let before = minus(area(extent), area(band_of(extent, minus(p.level, 1))));
-    let bands = if p.level == levels {
-        p.band
-    } else {
-        minus(p.band, 1)
-    };
-    plus(
-        plus(before, times(bands, area(m))),
-        plus(times(p.col, m.height), p.row),
-    )
-}
-
-// The number in plane order of a place, or the whole area where there is no such place.
-pub fn number_of(extent: Extent, levels: usize, p: Spot) -> usize {
-    let m = band_of(extent, p.level);
-    if !is_band(levels, p.level, p.band) {
-        return area(extent);
-    }
-    if m.height <= p.row {
-        return area(extent);
-    }
-    if m.width <= p.col {
-        return area(extent);
-    }
-    number_in(extent, levels, p, m)
-}
-
-// The n-th block in covering order; its band is 0.
-pub fn block_place(extent: Extent, levels: usize, n: usize) -> Spot {
-    let mut left = n;
-    let mut level: usize = 1;
-    while level < levels {
-        let here = level_blocks(extent, level);
-        if left < here {
-            return block_in_level(extent, level, left);
+    // The n-th block of a level.
+    pub fn level_block(self, level: usize, n: usize) -> Spot {
+        let m = self.band(plus(level, 1));
+        Spot {
+            level,
+            band: 0,
+            row: rest(n, m.height),
+            col: over(n, m.height),
         }
-        left = minus(left, here);
-        level += 1;
     }
-    block_in_level(extent, levels, left)
-}
 
-pub fn block_in_level(extent: Extent, level: usize, n: usize) -> Spot {
-    let m = band_of(extent, plus(level, 1));
-    Spot {
-        level: level,
-        band: 0,
-        row: rest(n, m.height),
-        col: over(n, m.height),
+    // The number in covering order of the block at this place.
+    pub fn block_number(self, p: Spot) -> usize {
+        let m = self.band(plus(p.level, 1));
+        plus(self.blocks_before(p.level), m.cell(p.row, p.col))
     }
 }
 
-// The number in covering order of the block at this place.
-pub fn block_number(extent: Extent, p: Spot) -> usize {
-    let m = band_of(extent, plus(p.level, 1));
-    plus(
-        blocks_before(extent, p.level),
-        plus(times(p.col, m.height), p.row),
-    )
+// The height and the width of a picture, and its levels.
+#[derive(Clone, Copy, PartialEq, Eq, Debug)]
+pub struct Frame {
+    pub extent: Extent,
+    pub levels: usize,
+}
+
+impl Frame {
+    pub fn new(height: usize, width: usize, levels: usize) -> Frame {
+        Frame {
+            extent: Extent { height, width },
+            levels,
+        }
+    }
+
+    pub fn area(self) -> usize {
+        self.extent.area()
+    }
+
+    // Check 2. The image that the deepest level splits is at least 4 by 4: 2^(levels + 1) is at most the smaller of height and width.
+    pub fn has_depth(self) -> bool {
+        let smaller = self.extent.height.min(self.extent.width);
+        matches!(self.levels, 1..=8) && power(plus(self.levels, 1)) <= smaller
+    }
+
+    // Checks 1 and 2.
+    pub fn check(self) -> Result<(), Refusal> {
+        Refusal::Side.unless(self.extent.has_sides())?;
+        Refusal::Depth.unless(self.has_depth())
+    }
+
+    pub fn blocks(self) -> usize {
+        self.extent.blocks_before(plus(self.levels, 1))
+    }
+
+    // Check 3, for a plane and coverings of these lengths.
+    pub fn fits(self, plane: usize, coverings: usize) -> bool {
+        plane == self.area() && coverings == self.blocks()
+    }
+
+    // Checks 1 to 3.
+    pub fn check_lengths(self, plane: usize, coverings: usize) -> Result<(), Refusal> {
+        self.check()?;
+        Refusal::Length.unless(self.fits(plane, coverings))
+    }
+
+    fn level_entries(self, level: usize) -> usize {
+        let bands = if level == self.levels { 4 } else { 3 };
+        times(bands, self.extent.band(level).area())
+    }
+
+    // The n-th place of a level, in plane order.
+    fn place_in_level(self, level: usize, n: usize) -> Spot {
+        let m = self.extent.band(level);
+        let first = if level == self.levels { 0 } else { 1 };
+        let inside = rest(n, m.area());
+        Spot {
+            level,
+            band: plus(first, over(n, m.area())),
+            row: rest(inside, m.height),
+            col: over(inside, m.height),
+        }
+    }
+
+    // The n-th place of the plane, in plane order.
+    pub fn place(self, n: usize) -> Spot {
+        let mut left = n;
+        for level in 1..self.levels {
+            let here = self.level_entries(level);
+            if left < here {
+                return self.place_in_level(level, left);
+            }
+            left = left.saturating_sub(here);
+        }
+        self.place_in_level(self.levels, left)
+    }
+
+    // Where the n-th place of the plane stands.
+    pub fn index_at(self, n: usize) -> usize {
+        self.extent.index_of(self.place(n))
+    }
+
+    // Whether the level has the band; band 0 is the deepest level's alone.
+    fn is_band(self, level: usize, band: usize) -> bool {
+        let is_level = 1 <= level && level <= self.levels;
+        is_level
+            && (if band == 0 {
+                level == self.levels
+            } else {
+                band < 4
+            })
+    }
+
+    // The number in plane order of a place, if the plane has it.
+    pub fn number_of(self, p: Spot) -> Option<usize> {
+        let m = self.extent.band(p.level);
+        if !self.is_band(p.level, p.band) || m.height <= p.row || m.width <= p.col {
+            return None;
+        }
+        let whole = self.extent.band(p.level.saturating_sub(1)).area();
+        let before = self.area().saturating_sub(whole);
+        let bands = if p.level == self.levels {
+            p.band
+        } else {
+            p.band.saturating_sub(1)
+        };
+        Some(plus(plus(before, times(bands, m.area())), m.cell(p.row, p.col)))
+    }
+
+    // The n-th block in covering order.
+    pub fn block(self, n: usize) -> Spot {
+        let mut left = n;
+        for level in 1..self.levels {
+            let here = self.extent.level_blocks(level);
+            if left < here {
+                return self.extent.level_block(level, left);
+            }
+            left = left.saturating_sub(here);
+        }
+        self.extent.level_block(self.levels, left)
+    }
+
+    // Check 6.
+    pub fn is_in_range(self, plane: &[i64]) -> bool {
+        (0..self.area()).all(|n| {
+            let p = self.place(n);
+            in_range(at(plane, self.extent.index_of(p), 0), p.level, p.band)
+        })
+    }
+
+    // Checks 5 and 6.
+    pub fn check_contents(self, plane: &[i64], coverings: &[u8]) -> Result<(), Refusal> {
+        Refusal::Covering.unless(all_coverings(coverings))?;
+        Refusal::Value.unless(self.is_in_range(plane))
+    }
+
+    // Checks 14, 5, 18 and 6.
+    pub fn check_listed(self, plane: &[i64], coverings: &[u8], list: &[u8]) -> Result<(), Refusal> {
+        Refusal::List.unless(is_list(list))?;
+        Refusal::Covering.unless(all_coverings(coverings))?;
+        Refusal::Unlisted.unless(coverings.iter().all(|covering| list.contains(covering)))?;
+        self.check_contents(plane, coverings)
+    }
 }
 
 // The largest size of an entry of the band.
@@ -271,130 +236,26 @@ pub fn reach(level: usize, band: usize) -> usize {
     if band == 0 {
         times(4095, power(times(2, level)))
     } else {
-        times(8190, power(times(2, minus(level, 1))))
+        times(8190, power(times(2, level.saturating_sub(1))))
     }
 }
 
 pub fn in_range(value: i64, level: usize, band: usize) -> bool {
-    if band == 0 {
-        if value < 0 {
-            return false;
-        }
-    }
-    if value < -1099511627775 {
-        return false;
-    }
-    if value > 1099511627775 {
-        return false;
-    }
-    size(value) <= reach(level, band) as u64
-}
-
-// Check 6.
-pub fn all_in_range(extent: Extent, levels: usize, plane: &[i64]) -> bool {
-    let end = area(extent);
-    let mut n: usize = 0;
-    while n < end {
-        let p = place(extent, levels, n);
-        if !in_range(value_at(plane, index_of(extent, p)), p.level, p.band) {
-            return false;
-        }
-        n += 1;
-    }
-    true
+    let is_signed = 0 < band;
+    (is_signed || 0 <= value) && size(value) <= reach(level, band)
 }
 
 // Check 5.
 pub fn all_coverings(coverings: &[u8]) -> bool {
-    let mut i: usize = 0;
-    while i < coverings.len() {
-        let covering = byte_at(coverings, i);
-        if covering == 0 {
-            return false;
-        }
-        if 117 < covering {
-            return false;
-        }
-        i += 1;
-    }
-    true
+    coverings.iter().all(|covering| matches!(covering, 1..=117))
 }
 
-// Whether each entry is over the one before it.
-fn rises(list: &[u8]) -> bool {
-    let mut i: usize = 1;
-    while i < list.len() {
-        if byte_at(list, i) <= byte_at(list, minus(i, 1)) {
-            return false;
-        }
-        i += 1;
-    }
-    true
-}
-
-// Check 14.
+// Check 14: coverings, each over the one before it.
 pub fn is_list(list: &[u8]) -> bool {
-    if list.len() == 0 {
-        return false;
-    }
-    if !all_coverings(list) {
-        return false;
-    }
-    rises(list)
+    !list.is_empty() && all_coverings(list) && list.is_sorted_by(|one, next| one < next)
 }
 
-// Checks 5 and 6.
-pub fn contents(extent: Extent, levels: usize, plane: &[i64], coverings: &[u8]) -> u32 {
-    if !all_coverings(coverings) {
-        return 5;
-    }
-    if !all_in_range(extent, levels, plane) {
-        return 6;
-    }
-    0
-}
-
-// Check 18.
-fn all_listed(coverings: &[u8], list: &[u8]) -> bool {
-    let mut i: usize = 0;
-    while i < coverings.len() {
-        if times_chosen(list, list.len(), byte_at(coverings, i)) == 0 {
-            return false;
-        }
-        i += 1;
-    }
-    true
-}
-
-// Checks 14, 5, 18 and 6.
-pub fn listed_contents(
-    extent: Extent,
-    levels: usize,
-    plane: &[i64],
-    coverings: &[u8],
-    list: &[u8],
-) -> u32 {
-    if !is_list(list) {
-        return 14;
-    }
-    if !all_coverings(coverings) {
-        return 5;
-    }
-    if !all_listed(coverings, list) {
-        return 18;
-    }
-    contents(extent, levels, plane, coverings)
-}
-
-// How often the first `end` places hold the covering.
-pub fn times_chosen(coverings: &[u8], end: usize, covering: u8) -> usize {
-    let mut n: usize = 0;
-    let mut i: usize = 0;
-    while i < end {
-        if byte_at(coverings, i) == covering {
-            n = plus(n, 1);
-        }
-        i += 1;
-    }
-    n
+// How often these blocks have the covering.
+pub fn times_chosen(coverings: &[u8], covering: u8) -> usize {
+    coverings.iter().filter(|one| **one == covering).count()
 }

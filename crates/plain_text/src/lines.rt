@@ -1,47 +1,6 @@
-// Reading numbers and lines of them from a place in a text.
-use plain_frame::safe::{add, byte_at, opposite, plus, signed, size};
-
-// A number that was read, and the place after it.
-#[derive(Drop)]
-pub struct Numeral {
-    pub good: bool,
-    pub next: usize,
-    pub value: i64,
-}
-
-fn no_number() -> Numeral {
-    Numeral {
-        good: false,
-        next: 0,
-        value: 0,
-    }
-}
-
-fn is_digit(byte: u8) -> bool {
-    if byte < b'0' {
-        return false;
-    }
-    byte <= b'9'
-}
-
-// The length of the run of digits from a place, 11 for a longer one.
-fn digits(text: &[u8], at: usize) -> usize {
-    let mut n: usize = 0;
-    while n < 11 {
-        if !is_digit(byte_at(text, plus(at, n))) {
-            return n;
-        }
-        n += 1;
-    }
-    n
-}
-
-fn digit_value(byte: u8) -> i64 {
-    if byte < b'0' {
-        return 0;
-    }
-    signed((byte - b'0') as u64)
-}
+// Reading numbers and lines of them. What was read is given with the text that is left.
+use plain_frame::refusal::Refusal;
+use plain_frame::safe::{add, opposite, plus};
 
 fn ten_times(v: i64) -> i64 {
     let two = add(v, v);
@@ -49,55 +8,40 @@ fn ten_times(v: i64) -> i64 {
     add(add(four, four), two)
 }
 
-fn decimal(text: &[u8], at: usize, n: usize) -> i64 {
-    let mut value: i64 = 0;
-    let mut i: usize = 0;
-    while i < n {
-        value = add(ten_times(value), digit_value(byte_at(text, plus(at, i))));
-        i += 1;
-    }
-    value
+fn decimal(digits: &[u8]) -> i64 {
+    digits.iter().fold(0, |value, digit| {
+        add(ten_times(value), i64::from(digit.saturating_sub(b'0')))
+    })
 }
 
 // A number without a sign: no leading zero, at most 2,147,483,647.
-pub fn number(text: &[u8], at: usize) -> Numeral {
-    let n = digits(text, at);
-    if n == 0 {
-        return no_number();
+pub fn number(text: &[u8]) -> Option<(i64, &[u8])> {
+    let run = text
+        .iter()
+        .take(11)
+        .take_while(|byte| byte.is_ascii_digit())
+        .count();
+    let (digits, left) = text.split_at_checked(run)?;
+    if digits.is_empty() || 10 < digits.len() || (1 < digits.len() && digits.starts_with(b"0")) {
+        return None;
     }
-    if 10 < n {
-        return no_number();
-    }
-    if byte_at(text, at) == b'0' {
-        if 1 < n {
-            return no_number();
-        }
-    }
-    let value = decimal(text, at, n);
+    let value = decimal(digits);
     if value > 2147483647 {
-        return no_number();
+        return None;
     }
-    Numeral {
-        good: true,
-        next: plus(at, n),
-        value: value,
-    }
+    Some((value, left))
 }
 
 // The same, with a minus where the number is not 0.
-fn signed_number(text: &[u8], at: usize) -> Numeral {
-    if byte_at(text, at) != b'-' {
-        return number(text, at);
+fn signed_number(text: &[u8]) -> Option<(i64, &[u8])> {
+    let Some(unsigned) = text.strip_prefix(b"-") else {
+        return number(text);
+    };
+    let (value, left) = number(unsigned)?;
+    if value == 0 {
+        return None;
     }
-    let n = number(text, plus(at, 1));
-    if n.value == 0 {
-        return no_number();
-    }
-    Numeral {
-        good: n.good,
-        next: n.next,
-        value: opposite(n.value),
-    }
+    Some((opposite(value), left))
 }
 
 // The byte after a value: a line end after the last, a space after the others.
@@ -109,140 +53,78 @@ pub fn byte_after(column: usize, columns: usize) -> u8 {
     }
 }
 
-// The number, if this byte follows it; the place after is past the byte.
-pub fn followed(text: &[u8], v: Numeral, byte: u8) -> Numeral {
-    if byte_at(text, v.next) != byte {
-        return no_number();
-    }
-    Numeral {
-        good: v.good,
-        next: plus(v.next, 1),
-        value: v.value,
-    }
+// The text past the byte after a value.
+pub fn past(text: &[u8], column: usize, columns: usize) -> Option<&[u8]> {
+    text.strip_prefix(&[byte_after(column, columns)])
 }
 
-// A line of up to five values that was read, and the place after its end. The last value is e, the one before it d, and so on.
+// Kept: the number of columns is no const parameter, since a bound `FnMut` cannot name one, and `line` then requires room for its array.
+// A line of up to five values, of which the fifth may have a minus; the places left over hold 0.
+pub fn line(text: &[u8], columns: usize) -> Option<([i64; 5], &[u8])> {
+    let mut values = [0i64; 5];
+    let mut left = text;
+    for (column, place) in values.iter_mut().take(columns).enumerate() {
+        let (value, after) = if column == 4 {
+            signed_number(left)?
+        } else {
+            number(left)?
+        };
+        *place = value;
+        left = past(after, column, columns)?;
+    }
+    Some((values, left))
+}
+
+// Lines of values: how many values a line has, how many lines there are, and the text that they begin.
 #[derive(Clone, Copy)]
-pub struct Line {
-    pub good: bool,
-    pub next: usize,
-    pub a: i64,
-    pub b: i64,
-    pub c: i64,
-    pub d: i64,
-    pub e: i64,
-}
-
-// A line without values yet, which is not good.
-pub fn empty_line(at: usize) -> Line {
-    Line {
-        good: false,
-        next: at,
-        a: 0,
-        b: 0,
-        c: 0,
-        d: 0,
-        e: 0,
-    }
-}
-
-// The line with one value more.
-fn longer(l: Line, v: i64, next: usize) -> Line {
-    Line {
-        good: true,
-        next: next,
-        a: l.b,
-        b: l.c,
-        c: l.d,
-        d: l.e,
-        e: v,
-    }
-}
-
-// A value and the byte after it; the fifth value may have a minus.
-fn value_in(text: &[u8], at: usize, column: usize, columns: usize) -> Numeral {
-    let v = if column == 4 {
-        signed_number(text, at)
-    } else {
-        number(text, at)
-    };
-    followed(text, v, byte_after(column, columns))
-}
-
-// A line of values from a place, of at least one column.
-pub fn read_line(text: &[u8], at: usize, columns: usize) -> Line {
-    let mut l = empty_line(at);
-    let mut n: usize = 0;
-    while n < columns {
-        let v = value_in(text, l.next, n, columns);
-        if !v.good {
-            return empty_line(at);
-        }
-        l = longer(l, v.value, v.next);
-        n += 1;
-    }
-    l
-}
-
-// Whether the text has these bytes from a place on.
-pub fn stands(text: &[u8], at: usize, bytes: &[u8]) -> bool {
-    let mut i: usize = 0;
-    while i < bytes.len() {
-        if byte_at(text, plus(at, i)) != byte_at(bytes, i) {
-            return false;
-        }
-        i += 1;
-    }
-    true
-}
-
-// Lines of values that were read: whether their names stand above them, where the first begins, how many, and the place after the last.
-#[derive(Drop)]
-pub struct Lines {
-    pub good: bool,
-    pub at: usize,
+pub struct Section<'a> {
+    pub columns: usize,
     pub count: usize,
-    pub next: usize,
+    pub text: &'a [u8],
 }
 
-// The good lines of values from a place on.
-fn read_lines(text: &[u8], at: usize, columns: usize) -> Lines {
-    let mut next = at;
-    let mut n: usize = 0;
-    while n < text.len() {
-        let l = read_line(text, next, columns);
-        if !l.good {
-            return Lines {
-                good: true,
-                at: at,
-                count: n,
-                next: next,
-            };
+impl Section<'_> {
+    // Takes each line and its number, until one is refused.
+    pub fn try_each<F: FnMut(usize, [i64; 5]) -> Result<(), Refusal>>(
+        self,
+        mut take: F,
+    ) -> Result<(), Refusal>
+        requires { F.IsAlwaysCallable take }
+    {
+        let mut left = self.text;
+        for n in 0..self.count {
+            let (values, after) = line(left, self.columns).ok_or(Refusal::Text)?;
+            take(n, values)?;
+            left = after;
         }
-        next = l.next;
-        n += 1;
-    }
-    Lines {
-        good: true,
-        at: at,
-        count: n,
-        next: next,
+        Ok(())
     }
 }
 
-// The same below a line of names.
-pub fn read_section(text: &[u8], at: usize, names: &[u8], columns: usize) -> Lines {
-    if stands(text, at, names) {
-        return read_lines(text, plus(at, names.len()), columns);
+// The lines of values below a line of names, and the text that is left.
+pub fn read_section<'a>(
+    text: &'a [u8],
+    names: &[u8],
+    columns: usize,
+) -> Option<(Section<'a>, &'a [u8])> {
+    let text = text.strip_prefix(names)?;
+    let mut left = text;
+    let mut count: usize = 0;
+    for _ in 0..text.len() {
+        let Some((_, after)) = line(left, columns) else {
+            break;
+        };
+        left = after;
+        count = plus(count, 1);
     }
-    Lines {
-        good: false,
-        at: 0,
-        count: 0,
-        next: 0,
-    }
+    let section = Section {
+        columns,
+        count,
+        text,
+    };
+    Some((section, left))
 }
 
 pub fn natural(v: i64) -> usize {
-    size(v) as usize
+    v.unsigned_abs() as usize
 }

@@ -181,12 +181,12 @@ looked_end {R} {h} {w} {p} {d} {m} {n} L = (
     none : Ahead h p d 0 m n
     none = λ i l. absurd (omega arith)
 
--- ---- in code: k of the R levels are left
+-- ---- in code: d of the R levels are looked at, k are left
 
 -- what a turn asks
-module _ {R h w : ℕ} {p : List ℤ} {k m n : ℕ} (before : Looked R h w p (R - k) k m n) (some : 0 < k) (long : length p ≡ w * h) where
-  pub now : Looked R h w p (R - k) (suc (k - 1)) m n
-  now = let e : k ≡ suc (k - 1) = omega arith in subst (λ (k' : ℕ). Looked R h w p (R - k) k' m n) e before
+module _ {R h w : ℕ} {p : List ℤ} {d k m n : ℕ} (before : Looked R h w p d k m n) (k' : ℕ) (some : k ≡ suc k') (long : length p ≡ w * h) where
+  pub now : Looked R h w p d (suc k') m n
+  now = subst (λ (k : ℕ). Looked R h w p d k m n) some before
 
   pub room_right : Room h m (n / 2) (n / 2 * h) (length p)
   room_right x l = let a = before.tall in let b = before.wide in omega (arith, room h w 0 (n / 2) m (n / 2) (omega arith) (omega arith) long x l)
@@ -201,9 +201,9 @@ module _ {R h w : ℕ} {p : List ℤ} {k m n : ℕ} (before : Looked R h w p (R 
       half-small = let b = before.wide in let c = before.across in omega arith
 
   -- and what it leaves
-  module _ {most : ℕ} (e : most ≡ most_at (R - k)) where
+  module _ {most : ℕ} (e : most ≡ most_at d) where
     pub most-here : most ≤ 536739840
-    most-here = let l = before.few in omega (arith, e, most_small (R - k) (omega arith))
+    most-here = let l = before.few in omega (arith, e, most_small d (omega (arith, before.all)))
 
     pub not_right : (Rectangle false most p h (n / 2 * h) m (n / 2) → ⊥) → false ≡ in_range R h w (image_of h p)
     not_right f = sym (is_false (in_range R h w (image_of h p)) (λ t. f (subst⁻¹ (λ (b : ℕ). Rectangle false b p h (n / 2 * h) m (n / 2)) e (has_right now t))))
@@ -211,27 +211,27 @@ module _ {R h w : ℕ} {p : List ℤ} {k m n : ℕ} (before : Looked R h w p (R 
     pub not_below : (Rectangle false most p h (m / 2) (m / 2) (n / 2) → ⊥) → false ≡ in_range R h w (image_of h p)
     not_below f = sym (is_false (in_range R h w (image_of h p)) (λ t. f (subst⁻¹ (λ (b : ℕ). Rectangle false b p h (m / 2) (m / 2) (n / 2)) e (has_below now t))))
 
-    deeper : suc (R - k) ≡ R - (k - 1)
-    deeper = let a = before.all in omega arith
+    deeper : suc d ≡ d + 1
+    deeper = omega arith
 
-    pub next-most : most * 4 ≡ most_at (R - (k - 1))
-    next-most = ap (λ (b : ℕ). b * 4) e ∙ most_next (R - k) ∙ ap most_at deeper
+    pub next-most : most * 4 ≡ most_at (d + 1)
+    next-most = ap (λ (b : ℕ). b * 4) e ∙ most_next d ∙ ap most_at deeper
 
-    pub next : Rectangle false most p h (n / 2 * h) m (n / 2) → Rectangle false most p h (m / 2) (m / 2) (n / 2) → Looked R h w p (R - (k - 1)) (k - 1) (m / 2) (n / 2)
+    pub next : Rectangle false most p h (n / 2 * h) m (n / 2) → Rectangle false most p h (m / 2) (m / 2) (n / 2) → Looked R h w p (d + 1) k' (m / 2) (n / 2)
     next a b =
-        subst (λ (d : ℕ). Looked R h w p d (k - 1) (m / 2) (n / 2)) deeper
+        subst (λ (d : ℕ). Looked R h w p d k' (m / 2) (n / 2)) deeper
         (looked_turn now (subst (λ (b : ℕ). Rectangle false b p h (n / 2 * h) m (n / 2)) e a) (subst (λ (b : ℕ). Rectangle false b p h (m / 2) (m / 2) (n / 2)) e b))
 
 -- and after the last
-module _ {R h w : ℕ} {p : List ℤ} {k m n : ℕ} (before : Looked R h w p (R - k) k m n) (none : k ≤ 0) (long : length p ≡ w * h) {most : ℕ} (e : most ≡ most_at (R - k)) where
-  last : Looked R h w p (R - k) 0 m n
-  last = let z : k ≡ 0 = omega arith in subst (λ (k' : ℕ). Looked R h w p (R - k) k' m n) z before
+module _ {R h w : ℕ} {p : List ℤ} {d k m n : ℕ} (before : Looked R h w p d k m n) (none : k ≤ 0) (long : length p ≡ w * h) {most : ℕ} (e : most ≡ most_at d) where
+  last : Looked R h w p d 0 m n
+  last = let z : k ≡ 0 = omega arith in subst (λ (k' : ℕ). Looked R h w p d k' m n) z before
 
   pub room_low : Room h m n 0 (length p)
   room_low x l = omega (arith, room h w 0 0 m n (omega (arith, before.tall)) (omega (arith, before.wide)) long x l)
 
   pub low_small : most / 2 ≤ 268369920
-  low_small = let l = before.few in omega (arith, e, most_small (R - k) (omega arith))
+  low_small = let l = before.few in omega (arith, e, most_small d (omega (arith, before.all)))
 
   pub decided : (r : Bool) → T r ↔ Rectangle true (most / 2) p h 0 m n → r ≡ in_range R h w (image_of h p)
   decided true t = let u = looked_end last in sym (is_true (in_range R h w (image_of h p)) (u.1 (subst (λ (b : ℕ). Rectangle true (b / 2) p h 0 m n) e (t.0 tt))))

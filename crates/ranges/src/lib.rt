@@ -18,15 +18,13 @@ fn over(v: i64, most: u64) -> u64
 }
 
 // Whether each of a run of tetrolet coefficients is at most `most` away from zero.
-fn run_within(plane: &[i64], first: usize, n: usize, most: u64) -> bool
-    requires { (first + n ≤ length plane.now) × (n ≤ 512) × (most ≤ 2 ^ 40) }
-    ensures { T result ↔ Run false most plane.now first n }
+fn run_within(run: &[i64], most: u64) -> bool
+    requires { (length run.now ≤ 512) × (most ≤ 2 ^ 40) }
+    ensures { T result ↔ Run false most run.now 0 (length run.now) }
 {
     let mut beyond: u64 = 0;
-    let mut k: usize = 0;
-    while k < n {
-        beyond += over(plane[first + k], most);
-        k += 1;
+    for v in run {
+        beyond += over(*v, most);
     }
     beyond == 0
 }
@@ -42,29 +40,23 @@ fn is_low(v: i64, most: u64) -> bool
 }
 
 // Whether each of a run of low-pass entries is from 0 to `most`.
-fn run_low(plane: &[i64], first: usize, n: usize, most: u64) -> bool
-    requires { first + n ≤ length plane.now }
-    ensures { T result ↔ Run true most plane.now first n }
+fn run_low(run: &[i64], most: u64) -> bool
+    ensures { T result ↔ Run true most run.now 0 (length run.now) }
 {
-    let mut k: usize = 0;
-    while k < n {
-        if !is_low(plane[first + k], most) {
-            return false;
-        }
-        k += 1;
-    }
-    true
+    run.iter().all(|v| is_low(*v, most))
 }
 
 // Either of the two.
-fn run_bounded(plane: &[i64], first: usize, n: usize, most: u64, low: bool) -> bool
-    requires { (first + n ≤ length plane.now) × (n ≤ 512) × (most ≤ 2 ^ 40) }
-    ensures { T result ↔ Run low most plane.now first n }
+// Kept: one flag and one `if`; a closure in its place makes each of the three calls of `rectangle_bounded` longer.
+fn run_bounded(run: &[i64], most: u64, low: bool) -> bool
+    requires { (length run.now ≤ 512) × (most ≤ 2 ^ 40) }
+    ensures { T result ↔ Run low most run.now 0 (length run.now) }
 {
     if low {
-        return run_low(plane, first, n, most);
+        run_low(run, most)
+    } else {
+        run_within(run, most)
     }
-    run_within(plane, first, n, most)
 }
 
 // Whether each entry of a rectangle is in its bounds.
@@ -81,12 +73,11 @@ fn rectangle_bounded(
     requires { Room height tall wide first (length plane.now) × (tall ≤ 512) × (most ≤ 2 ^ 40) }
     ensures { T result ↔ Rectangle low most plane.now height first tall wide }
 {
-    let mut c: usize = 0;
-    while c < wide {
-        if !run_bounded(plane, first + c * height, tall, most, low) {
+    for c in 0..wide {
+        let start = first + c * height;
+        if !run_bounded(&plane[start..start + tall], most, low) {
             return false;
         }
-        c += 1;
     }
     true
 }
@@ -102,9 +93,8 @@ pub fn in_range(plane: &[i64], height: u32, width: u32, levels: u32) -> bool
     let h = height as usize;
     let mut tall = h;
     let mut wide = width as usize;
-    let mut left = levels;
     let mut most: u64 = 8190;
-    while 0 < left {
+    for _ in 0..levels {
         let low = tall / 2;
         let half = wide / 2;
         if !rectangle_bounded(plane, half * h, h, tall, half, most, false) {
@@ -116,7 +106,6 @@ pub fn in_range(plane: &[i64], height: u32, width: u32, levels: u32) -> bool
         tall = low;
         wide = half;
         most *= 4;
-        left -= 1;
     }
     rectangle_bounded(plane, 0, h, tall, wide, most / 2, true)
 }

@@ -1,8 +1,7 @@
 // The reader of texts: a struct that holds a lent text and the place where it stands. Document 01: "Every text is a line of names, then lines of values".
-// Each function over it is thin: it hands the text and the place to the covered cursor function of `text`, and says what that says. A line that may be
-// missing is answered by the cursor's enum, which holds the place past the line; past lines that there may be none of, the reader itself is handed back.
-// An enum cannot hold a reference, so no answer holds a reader. Whoever has a plain text calls the functions at the end, which make the reader: no
-// caller needs a proof by hand. What is read at a place is in text/specs/At.antt and Lines.antt.
+// Each function over it is thin: it hands the text and the place to the cursor function of `text`, and says what that says. A line that may be missing is
+// answered by an Option with the place past the line, as there; past lines that there may be none of, the reader itself is handed back. Whoever has a plain
+// text calls the functions at the end, which make the reader. What is read at a place is in text/specs/At.antt and Lines.antt.
 #![tactic(auto)]
 
 ghost use Rattle.std.specs.Prelude.{◌≡◌, ◌≤◌, length};
@@ -10,10 +9,10 @@ ghost use Rattle.text.specs.At.{skip_at};
 ghost use Rattle.text.specs.Lines.{three_at, fours_at, fives_at};
 ghost use Rattle.reader.specs.Standing.{standing};
 
-use text::lines::LineOfThree;
-use text::names::Skip;
+use text::lines::Three;
 
-#[derive(Drop)]
+// Kept: functions and no methods: what callers name is `reader::names_at` and the like, and each stays under its name.
+#[derive(Clone, Copy)]
 pub struct Reader<'a> {
     pub text: &'a [u8],
     // The next byte to be read, or the text's length.
@@ -37,7 +36,7 @@ pub fn place<'a>(r: Reader<'a>) -> usize
 
 // Takes a line of names: the place past it, if it stands there. Two wrong answers that the contract rules out: a good answer for a line that differs in
 // its last byte; a place before the line's LF.
-pub fn names<'a, 'b>(r: Reader<'a>, line: &'b [u8]) -> Skip
+pub fn names<'a, 'b>(r: Reader<'a>, line: &'b [u8]) -> Option<usize>
     requires { r.at ≤ length r.text.now }
     ensures { result ≡ skip_at r.entry.text.now r.entry.at line.now }
 {
@@ -45,7 +44,7 @@ pub fn names<'a, 'b>(r: Reader<'a>, line: &'b [u8]) -> Skip
 }
 
 // Takes a line of three values. Two wrong answers that the contract rules out: the values in the other order; a line with a fourth value taken as good.
-pub fn three<'a>(r: Reader<'a>) -> LineOfThree
+pub fn three<'a>(r: Reader<'a>) -> Option<Three>
     ensures { result ≡ three_at r.entry.text.now r.entry.at }
 {
     text::lines::read_three(r.text, r.at)
@@ -57,11 +56,7 @@ pub fn fours<'a>(r: Reader<'a>) -> Reader<'a>
     requires { r.at ≤ length r.text.now }
     ensures { result ≡ standing r.entry.text (fours_at r.entry.text.now r.entry.at) }
 {
-    let next = text::lines::pass_fours(r.text, r.at);
-    Reader {
-        text: r.text,
-        at: next,
-    }
+    over(r.text, text::lines::pass_fours(r.text, r.at))
 }
 
 // Goes past as many lines of four values and a signed one as there are. Two wrong answers that the contract rules out: a reader at the text's end,
@@ -70,16 +65,12 @@ pub fn fives<'a>(r: Reader<'a>) -> Reader<'a>
     requires { r.at ≤ length r.text.now }
     ensures { result ≡ standing r.entry.text (fives_at r.entry.text.now r.entry.at) }
 {
-    let next = text::lines::pass_fives(r.text, r.at);
-    Reader {
-        text: r.text,
-        at: next,
-    }
+    over(r.text, text::lines::pass_fives(r.text, r.at))
 }
 
 // A line of names at a place of a plain text. Two wrong answers that the contract rules out: names found further on; a bad answer for names at the
 // text's very end.
-pub fn names_at(s: &[u8], at: usize, line: &[u8]) -> Skip
+pub fn names_at(s: &[u8], at: usize, line: &[u8]) -> Option<usize>
     requires { at ≤ length s.now }
     ensures { result ≡ skip_at s.now at line.now }
 {
@@ -88,7 +79,7 @@ pub fn names_at(s: &[u8], at: usize, line: &[u8]) -> Skip
 
 // A line of three values at a place of a plain text. Two wrong answers that the contract rules out: the values of the text's first line; a good answer
 // past the text's end.
-pub fn three_at(s: &[u8], at: usize) -> LineOfThree
+pub fn three_at(s: &[u8], at: usize) -> Option<Three>
     ensures { result ≡ three_at s.now at }
 {
     three(over(s, at))

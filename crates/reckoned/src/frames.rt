@@ -1,17 +1,17 @@
 // The limits of heights, widths, levels and the lengths of slices, each with what lies past it.
-use crate::pictures::Picture;
-use crate::{pictures, smoothed};
+use crate::pictures::{Choice, Picture, both};
+use crate::smoothed;
 use pairs::answers::{end, put, tell, tell_one};
 use pairs::planes;
 use pairs::planes::{Lengths, Plane, zeros};
 use std::io;
 
 fn put_frame(rt: &impl Print, k: Plane) -> io::Result<()> {
-    put(rt, b"height ", k.height as u64)?;
-    put(rt, b"width ", k.width as u64)?;
-    put(rt, b"levels ", k.levels as u64)?;
-    put(rt, b"plane ", k.plane as u64)?;
-    put(rt, b"coverings ", k.coverings as u64)
+    put(rt, b"height ", k.height)?;
+    put(rt, b"width ", k.width)?;
+    put(rt, b"levels ", k.levels)?;
+    put(rt, b"plane ", k.plane)?;
+    put(rt, b"coverings ", k.coverings)
 }
 
 // Every entry that is lent a plane.
@@ -35,8 +35,8 @@ fn tell_frame(rt: &impl Print, words: &[u8], k: Plane) -> io::Result<()> {
         scratch: k.plane,
         picture: [0; 65],
     };
-    let d = tell(rt, true, b"decompose", pictures::decompose(words, p))?;
-    let t = tell(rt, d, b"within", pictures::decompose_within(words, p, 1))?;
+    let d = tell(rt, true, b"decompose", both(words, &p, Choice::Free))?;
+    let t = tell(rt, d, b"within", both(words, &p, Choice::Within(1)))?;
     end(rt, tell_plane(rt, t, words, k)?)
 }
 
@@ -90,7 +90,7 @@ pub fn depths(rt: &impl Print, words: &[u8]) -> io::Result<()> {
     frame(rt, words, 512, 512, 8, 16, 1)?;
     frame(rt, words, 512, 512, 9, 16, 1)?;
     frame(rt, words, 4, 4, 4294967297, 16, 1)?;
-    frame(rt, words, 4, 4, 18446744073709551615, 16, 1)
+    frame(rt, words, 4, 4, usize::MAX, 16, 1)
 }
 
 // Levels up to the logarithm of the smaller of height and width, less 1. With short slices a good depth is 3.
@@ -176,13 +176,13 @@ fn filled(
     samples: usize,
     scratch: usize,
 ) -> io::Result<()> {
-    put(rt, b"numerators ", numerators as u64)?;
-    put(rt, b"samples ", samples as u64)?;
-    put(rt, b"scratch ", scratch as u64)?;
+    put(rt, b"numerators ", numerators)?;
+    put(rt, b"samples ", samples)?;
+    put(rt, b"scratch ", scratch)?;
     let l = Lengths {
-        numerators: numerators,
-        samples: samples,
-        scratch: scratch,
+        numerators,
+        samples,
+        scratch,
     };
     tell_one(
         rt,

@@ -1,33 +1,23 @@
 // Test images, by the generator and by the plain second implementation.
-use cases::safe::sample_at;
-use cases::tally::same_samples;
-use pairs::answers::{Pair, numbered, put, tell_one};
-use pairs::front;
+use cases::answers::{Pair, compare, of_coder, of_plain};
+use cases::safe::{first_mut, load};
+use pairs::answers::{put, tell_one};
 use std::io;
 
 // Both write into n places. There is room for 512 by 512, and one place more.
-fn both(height: usize, width: usize, start: u32, n: usize) -> Pair {
-    let mut samples = [9u16; 262145];
-    let mut samples2 = samples;
-    let x = generator::test_image(height, width, start, front::samples_mut(&mut samples, n));
-    let y = plain::generated::test_image(
-        height,
-        width,
-        start,
-        front::samples_mut(&mut samples2, n),
-    );
-    Pair {
-        coder: numbered(refusals::code(x)),
-        plain: numbered(y),
-        same: same_samples(&samples, &samples2),
-    }
+fn both(height: usize, width: usize, start: u32, n: usize) -> Pair<()> {
+    compare(
+        [9; 262145],
+        |s| of_coder(generator::test_image(height, width, start, first_mut(s, n))),
+        |s| of_plain(plain::generated::test_image(height, width, start, first_mut(s, n))),
+    )
 }
 
 fn image(rt: &impl Print, height: usize, width: usize, start: u32, n: usize) -> io::Result<()> {
-    put(rt, b"height ", height as u64)?;
-    put(rt, b"width ", width as u64)?;
-    put(rt, b"start ", start as u64)?;
-    put(rt, b"samples ", n as u64)?;
+    put(rt, b"height ", height)?;
+    put(rt, b"width ", width)?;
+    put(rt, b"start ", start)?;
+    put(rt, b"samples ", n)?;
     tell_one(rt, b"test image", both(height, width, start, n))
 }
 
@@ -35,8 +25,8 @@ fn image(rt: &impl Print, height: usize, width: usize, start: u32, n: usize) -> 
 pub fn first(rt: &impl Print) -> io::Result<()> {
     image(rt, 4, 4, 0, 16)?;
     let mut samples = [9u16; 16];
-    generator::test_image(4, 4, 0, &mut samples);
-    let sample = sample_at(&samples, 0);
+    let _ = generator::test_image(4, 4, 0, &mut samples);
+    let sample = load(&samples, 0);
     println!(rt; "first sample from 0: {sample}")
 }
 

@@ -1,23 +1,17 @@
 // The largest picture: 512 by 512 with 8 levels, which has 21,845 blocks. Its sheet is written; to decompose it the second implementation, which counts
 // the earlier choices anew for each covering of each block, would take thousands of millions of steps.
-use cases::answers::outcome;
-use cases::safe::put_value;
-use cases::tally::same_bytes;
-use pairs::answers::{Pair, put, put_signed, tell_one};
-use pairs::front;
+use cases::answers::{Pair, compare, of_coder, of_plain};
+use cases::safe::{first, store};
+use pairs::answers::{put, tell_one};
 use std::io;
 
 // Both write the sheet, which has 220,723 bytes and the line of the value.
-fn both_write(plane: &[i64], coverings: &[u8]) -> Pair {
-    let mut buffer = [b'?'; 220800];
-    let mut buffer2 = buffer;
-    let x = outcome(sheet::write(512, 512, 8, plane, coverings, &mut buffer));
-    let y = plain_text::writing::write(512, 512, 8, plane, coverings, &mut buffer2);
-    Pair {
-        coder: x,
-        plain: y,
-        same: same_bytes(&buffer, &buffer2),
-    }
+fn both_write(plane: &[i64], coverings: &[u8]) -> Pair<usize> {
+    compare(
+        [b'?'; 220800],
+        |buffer| of_coder(sheet::write(512, 512, 8, plane, coverings, buffer)),
+        |buffer| of_plain(plain_text::writing::write(512, 512, 8, plane, coverings, buffer)),
+    )
 }
 
 // The sheet of a plane that holds one value among zeros, with so many coverings.
@@ -25,17 +19,13 @@ fn write(rt: &impl Print, at: usize, value: i64, coverings: usize) -> io::Result
     put(rt, b"height ", 512)?;
     put(rt, b"width ", 512)?;
     put(rt, b"levels ", 8)?;
-    put(rt, b"coverings ", coverings as u64)?;
-    put(rt, b"place ", at as u64)?;
-    put_signed(rt, b"value ", value)?;
+    put(rt, b"coverings ", coverings)?;
+    put(rt, b"place ", at)?;
+    put(rt, b"value ", value)?;
     let mut plane = [0i64; 262144];
-    put_value(&mut plane, at, value);
+    store(&mut plane, at, value);
     let covers = [1u8; 21846];
-    tell_one(
-        rt,
-        b"write",
-        both_write(&plane, front::bytes(&covers, coverings)),
-    )
+    tell_one(rt, b"write", both_write(&plane, first(&covers, coverings)))
 }
 
 // As many coverings as blocks, one less and one more.

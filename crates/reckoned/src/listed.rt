@@ -1,35 +1,35 @@
 // Decomposing and restoring with a list of coverings, by the coder and by the plain second implementation: what a list lets a block take, and its limits.
-use crate::pictures::{List, Picture, Way, left_by, numbers};
+use crate::pictures::{Choice, List, Picture, both, left_by, numbers};
 use crate::tolerances::{half, stairs};
-use cases::safe::{byte_at, minus};
-use pairs::answers::{Pair, end, numbered, put, put_signed, tell, tell_one};
-use pairs::front;
-use pairs::left::{Left, pair};
+use cases::answers::{Pair, compare, of_coder, of_plain};
+use cases::safe::{first, first_mut, load};
+use pairs::answers::{end, put, tell, tell_one};
 use pairs::planes::{Plane, plane_of, zeros};
+use pairs::rooms::Room;
 use std::io;
 
 fn put_list(rt: &impl Print, l: List) -> io::Result<()> {
-    put(rt, b"listed ", l.length as u64)?;
+    put(rt, b"listed ", l.length)?;
     if 0 < l.length {
-        put(rt, b"first ", l.first as u64)?;
+        put(rt, b"first ", l.first)?;
     }
     if 1 < l.length {
-        put(rt, b"second ", l.second as u64)?;
+        put(rt, b"second ", l.second)?;
     }
     Ok(())
 }
 
 // Both on a picture, and the covering of its last block.
 fn last(rt: &impl Print, words: &[u8], k: Picture, tolerance: u64, l: List) -> io::Result<()> {
-    put(rt, b"height ", k.height as u64)?;
-    put(rt, b"levels ", k.levels as u64)?;
+    put(rt, b"height ", k.height)?;
+    put(rt, b"levels ", k.levels)?;
     put(rt, b"tolerance ", tolerance)?;
     put_list(rt, l)?;
-    let x = left_by(words, k, Way::CoderListed(tolerance), l);
-    let y = left_by(words, k, Way::PlainListed(tolerance), l);
-    let agreed = tell(rt, true, b"decompose", pair(x, y))?;
-    let covering = byte_at(&x.coverings, minus(k.coverings, 1));
-    put(rt, b"last covering ", covering as u64)?;
+    let choice = Choice::Listed(tolerance, l);
+    let agreed = tell(rt, true, b"decompose", both(words, &k, choice))?;
+    let left = left_by(&k, choice);
+    let covering = load(&left.coverings, k.coverings.saturating_sub(1));
+    put(rt, b"last covering ", covering)?;
     end(rt, agreed)
 }
 
@@ -43,9 +43,9 @@ fn block(
     second: u8,
 ) -> io::Result<()> {
     let l = List {
-        length: length,
-        first: first,
-        second: second,
+        length,
+        first,
+        second,
     };
     last(rt, words, stairs(), tolerance, l)
 }
@@ -72,79 +72,49 @@ pub fn steps(rt: &impl Print, words: &[u8]) -> io::Result<()> {
     halves(rt, words, 36)
 }
 
-fn decompose(words: &[u8], k: Picture, tolerance: u64, l: List) -> Pair {
-    pair(
-        left_by(words, k, Way::CoderListed(tolerance), l),
-        left_by(words, k, Way::PlainListed(tolerance), l),
+fn restore(words: &[u8], k: Plane, l: List) -> Pair<()> {
+    let plane = plane_of(k);
+    let coverings = [k.covering; 6];
+    let list = numbers(l);
+    compare(
+        Room::new(),
+        |room| {
+            of_coder(listing::restore_listed(
+                k.height,
+                k.width,
+                k.levels,
+                first(&plane, k.plane),
+                first(&coverings, k.coverings),
+                first(&list, l.length),
+                first_mut(&mut room.values, k.plane),
+                first_mut(&mut room.samples, k.plane),
+                first_mut(&mut room.scratch, k.plane),
+            ))
+        },
+        |room| {
+            of_plain(plain::pyramid::restore_listed(
+                words,
+                k.height,
+                k.width,
+                k.levels,
+                first(&plane, k.plane),
+                first(&coverings, k.coverings),
+                first(&list, l.length),
+                first_mut(&mut room.scratch, k.plane),
+                first_mut(&mut room.values, k.plane),
+                first_mut(&mut room.samples, k.plane),
+            ))
+        },
     )
-}
-
-fn restored_by_coder(k: Plane, l: List) -> Left {
-    let plane = plane_of(k);
-    let coverings = [k.covering; 6];
-    let list = numbers(l);
-    let mut numerators = [7i64; 65];
-    let mut samples = [9u16; 65];
-    let mut scratch = [-3i64; 65];
-    let a = listing::restore_listed(
-        k.height,
-        k.width,
-        k.levels,
-        front::values(&plane, k.plane),
-        front::bytes(&coverings, k.coverings),
-        front::bytes(&list, l.length),
-        front::values_mut(&mut numerators, k.plane),
-        front::samples_mut(&mut samples, k.plane),
-        front::values_mut(&mut scratch, k.plane),
-    );
-    Left {
-        answer: numbered(refusals::code(a)),
-        values: numerators,
-        samples: samples,
-        coverings: coverings,
-        scratch: scratch,
-    }
-}
-
-fn restored_by_plain(words: &[u8], k: Plane, l: List) -> Left {
-    let plane = plane_of(k);
-    let coverings = [k.covering; 6];
-    let list = numbers(l);
-    let mut numerators = [7i64; 65];
-    let mut samples = [9u16; 65];
-    let mut scratch = [-3i64; 65];
-    let n = plain::pyramid::restore_listed(
-        words,
-        k.height,
-        k.width,
-        k.levels,
-        front::values(&plane, k.plane),
-        front::bytes(&coverings, k.coverings),
-        front::bytes(&list, l.length),
-        front::values_mut(&mut scratch, k.plane),
-        front::values_mut(&mut numerators, k.plane),
-        front::samples_mut(&mut samples, k.plane),
-    );
-    Left {
-        answer: numbered(n),
-        values: numerators,
-        samples: samples,
-        coverings: coverings,
-        scratch: scratch,
-    }
-}
-
-fn restore(words: &[u8], k: Plane, l: List) -> Pair {
-    pair(restored_by_coder(k, l), restored_by_plain(words, k, l))
 }
 
 // A flat picture of this height and of width 4, of which so many samples are lent; plane, coverings and scratch are those of 4 by 4 and 1 level.
 fn flat(height: usize, levels: usize, samples: usize, sample: u16) -> Picture {
     Picture {
-        height: height,
+        height,
         width: 4,
-        levels: levels,
-        samples: samples,
+        levels,
+        samples,
         plane: 16,
         coverings: 1,
         scratch: 16,
@@ -155,19 +125,17 @@ fn flat(height: usize, levels: usize, samples: usize, sample: u16) -> Picture {
 // Both entries with this list, where nothing else is refused: of a good list the first number is the block's covering.
 fn lend(rt: &impl Print, words: &[u8], length: usize, first: u8, second: u8) -> io::Result<()> {
     let l = List {
-        length: length,
-        first: first,
-        second: second,
+        length,
+        first,
+        second,
     };
     put_list(rt, l)?;
-    let d = tell(
-        rt,
-        true,
-        b"decompose",
-        decompose(words, flat(4, 1, 16, 4095), 4095, l),
-    )?;
-    let mut k = zeros(4, 4, 1, 16, 1);
-    k.covering = first;
+    let p = both(words, &flat(4, 1, 16, 4095), Choice::Listed(4095, l));
+    let d = tell(rt, true, b"decompose", p)?;
+    let k = Plane {
+        covering: first,
+        ..zeros(4, 4, 1, 16, 1)
+    };
     end(rt, tell(rt, d, b"restore", restore(words, k, l))?)
 }
 
@@ -205,15 +173,19 @@ fn decompose_falling(
     sample: u16,
     tolerance: u64,
 ) -> io::Result<()> {
-    put(rt, b"height ", height as u64)?;
-    put(rt, b"levels ", levels as u64)?;
-    put(rt, b"samples ", samples as u64)?;
-    put(rt, b"sample ", sample as u64)?;
+    put(rt, b"height ", height)?;
+    put(rt, b"levels ", levels)?;
+    put(rt, b"samples ", samples)?;
+    put(rt, b"sample ", sample)?;
     put(rt, b"tolerance ", tolerance)?;
     let l = falling();
     put_list(rt, l)?;
     let k = flat(height, levels, samples, sample);
-    tell_one(rt, b"decompose", decompose(words, k, tolerance, l))
+    tell_one(
+        rt,
+        b"decompose",
+        both(words, &k, Choice::Listed(tolerance, l)),
+    )
 }
 
 // Decomposing looks at the list last.
@@ -236,15 +208,17 @@ fn restore_plane(
     value: i64,
     l: List,
 ) -> io::Result<()> {
-    put(rt, b"height ", height as u64)?;
-    put(rt, b"levels ", levels as u64)?;
-    put(rt, b"plane ", plane as u64)?;
-    put(rt, b"covering ", covering as u64)?;
-    put_signed(rt, b"value ", value)?;
+    put(rt, b"height ", height)?;
+    put(rt, b"levels ", levels)?;
+    put(rt, b"plane ", plane)?;
+    put(rt, b"covering ", covering)?;
+    put(rt, b"value ", value)?;
     put_list(rt, l)?;
-    let mut k = zeros(height, 4, levels, plane, 1);
-    k.covering = covering;
-    k.value = value;
+    let k = Plane {
+        covering,
+        value,
+        ..zeros(height, 4, levels, plane, 1)
+    };
     tell_one(rt, b"restore", restore(words, k, l))
 }
 

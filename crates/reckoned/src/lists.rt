@@ -1,26 +1,20 @@
 // The limits of words and of usage lists, each with what lies past it; and a usage list as it is written.
-use cases::answers::outcome;
-use cases::safe::put_byte;
-use cases::tally::same_bytes;
-use pairs::answers::{Pair, numbered, put, tell_one};
-use pairs::front;
+use cases::answers::{Pair, compare, of_coder, of_plain};
+use cases::safe::{first, first_mut, store};
+use pairs::answers::{put, tell_one};
 use std::io;
 
-fn pieces(words: &[u8], covering: u8, n: usize) -> Pair {
-    let mut word = [9u8; 17];
-    let mut word2 = [9u8; 17];
-    let x = refusals::code(coverings::word_of(covering, front::bytes_mut(&mut word, n)));
-    let y = plain::tiles::pieces(words, covering, front::bytes_mut(&mut word2, n));
-    Pair {
-        coder: numbered(x),
-        plain: numbered(y),
-        same: same_bytes(&word, &word2),
-    }
+fn pieces(words: &[u8], covering: u8, n: usize) -> Pair<()> {
+    compare(
+        [9; 17],
+        |word| of_coder(coverings::word_of(covering, first_mut(word, n))),
+        |word| of_plain(plain::tiles::pieces(words, covering, first_mut(word, n))),
+    )
 }
 
 pub fn word(rt: &impl Print, words: &[u8], covering: u8, n: usize) -> io::Result<()> {
-    put(rt, b"covering ", covering as u64)?;
-    put(rt, b"places ", n as u64)?;
+    put(rt, b"covering ", covering)?;
+    put(rt, b"places ", n)?;
     tell_one(rt, b"word", pieces(words, covering, n))
 }
 
@@ -31,26 +25,22 @@ pub fn places(rt: &impl Print, words: &[u8]) -> io::Result<()> {
 }
 
 // Both write the list into buffers of this length.
-fn both_usage(coverings: &[u8], room: usize) -> Pair {
-    let mut buffer = [b'?'; 64];
-    let mut buffer2 = [b'?'; 64];
-    let x = outcome(sheet::usage(coverings, front::bytes_mut(&mut buffer, room)));
-    let y = plain_text::writing::usage(coverings, front::bytes_mut(&mut buffer2, room));
-    Pair {
-        coder: x,
-        plain: y,
-        same: same_bytes(&buffer, &buffer2),
-    }
+fn both_usage(coverings: &[u8], room: usize) -> Pair<usize> {
+    compare(
+        [b'?'; 64],
+        |buffer| of_coder(sheet::usage(coverings, first_mut(buffer, room))),
+        |buffer| of_plain(plain_text::writing::usage(coverings, first_mut(buffer, room))),
+    )
 }
 
 // The first n of many coverings, of which the first is the one named and the others are 1.
 fn usage(rt: &impl Print, covering: u8, n: usize, room: usize) -> io::Result<()> {
-    put(rt, b"first ", covering as u64)?;
-    put(rt, b"coverings ", n as u64)?;
-    put(rt, b"room ", room as u64)?;
+    put(rt, b"first ", covering)?;
+    put(rt, b"coverings ", n)?;
+    put(rt, b"room ", room)?;
     let mut coverings = [1u8; 21846];
-    put_byte(&mut coverings, 0, covering as usize);
-    tell_one(rt, b"usage", both_usage(front::bytes(&coverings, n), room))
+    store(&mut coverings, 0, covering);
+    tell_one(rt, b"usage", both_usage(first(&coverings, n), room))
 }
 
 // Falling counts, as numbers: 10 before 9; and of equal counts the lower number first. The bytes A, B, C and p are the coverings 65, 66, 67 and 112.
@@ -59,8 +49,8 @@ pub fn usage_order(rt: &impl Print) -> io::Result<()> {
     put(rt, b"coverings ", 29)?;
     tell_one(rt, b"usage", both_usage(coverings, 64))?;
     let mut buffer = [b'?'; 64];
-    let list = outcome(sheet::usage(coverings, &mut buffer));
-    rt.write_all(front::bytes(&buffer, list.a))
+    let end = of_coder(sheet::usage(coverings, &mut buffer)).unwrap_or(0);
+    rt.write_all(first(&buffer, end))
 }
 
 // At most 21,845 coverings, whatever they are.

@@ -1,11 +1,10 @@
 // Decomposing a picture, without a tolerance, with one, and with one and a list, by the coder and by the plain second implementation: a flat one, and one of
 // 8 by 8 whose second level has a tie.
-use cases::answers::outcome;
+use cases::answers::{Answer, Pair, compare, of_coder, of_plain};
 use cases::lists::fill_list;
-use cases::safe::{put_byte, put_sample};
-use pairs::answers::{Pair, end, numbered, put, tell, tell_one};
-use pairs::front;
-use pairs::left::{Left, pair};
+use cases::safe::{first, first_mut, store};
+use pairs::answers::{end, put, tell, tell_one};
+use pairs::rooms::Room;
 use std::io;
 
 // A call: height, width and levels, the lengths of its slices, and the samples, of which the first are lent.
@@ -30,109 +29,87 @@ pub struct List {
 }
 
 pub fn numbers(l: List) -> [u8; 300] {
-    let mut list = [0u8; 300];
+    let mut list = [0; 300];
     fill_list(3, 0, &mut list);
-    put_byte(&mut list, 0, l.first as usize);
-    put_byte(&mut list, 1, l.second as usize);
+    store(&mut list, 0, l.first);
+    store(&mut list, 1, l.second);
     list
 }
 
-// Who decomposes: the coder or the second implementation, without a tolerance, with one, or with one and a list.
-#[derive(Drop)]
-pub enum Way {
-    Coder,
-    CoderWithin(u64),
-    CoderListed(u64),
-    Plain,
-    PlainWithin(u64),
-    PlainListed(u64),
+// How decomposing chooses: without a tolerance, with one, or with one and a list.
+#[derive(Clone, Copy)]
+pub enum Choice {
+    Free,
+    Within(u64),
+    Listed(u64, List),
 }
 
-// A way without a list does not read the one that it is lent.
-fn decompose_by(
-    words: &[u8],
-    way: Way,
-    height: usize,
-    width: usize,
-    levels: usize,
-    samples: &[u16],
-    list: &[u8],
-    plane: &mut [i64],
-    coverings: &mut [u8],
-    scratch: &mut [i64],
-) -> u32 {
-    match way {
-        Way::Coder => refusals::code(coder::decompose(
-            height, width, levels, samples, plane, coverings, scratch,
-        )),
-        Way::CoderWithin(tolerance) => refusals::code(coder::decompose_within(
-            height, width, levels, tolerance, samples, plane, coverings, scratch,
-        )),
-        Way::CoderListed(tolerance) => refusals::code(listing::decompose_listed(
-            height, width, levels, tolerance, samples, list, plane, coverings, scratch,
-        )),
-        Way::Plain => plain::pyramid::decompose(
-            words, height, width, levels, samples, plane, coverings, scratch,
+pub fn decompose(k: &Picture, choice: Choice, room: &mut Room) -> Answer<()> {
+    let samples = first(&k.picture, k.samples);
+    let plane = first_mut(&mut room.values, k.plane);
+    let coverings = first_mut(&mut room.coverings, k.coverings);
+    let scratch = first_mut(&mut room.scratch, k.scratch);
+    of_coder(match choice {
+        Choice::Free => coder::decompose(
+            k.height, k.width, k.levels, samples, plane, coverings, scratch,
         ),
-        Way::PlainWithin(tolerance) => plain::pyramid::decompose_within(
-            words, height, width, levels, tolerance, samples, plane, coverings, scratch,
+        Choice::Within(tolerance) => coder::decompose_within(
+            k.height, k.width, k.levels, tolerance, samples, plane, coverings, scratch,
         ),
-        Way::PlainListed(tolerance) => plain::pyramid::decompose_listed(
-            words, height, width, levels, tolerance, samples, list, plane, coverings, scratch,
+        Choice::Listed(tolerance, l) => listing::decompose_listed(
+            k.height,
+            k.width,
+            k.levels,
+            tolerance,
+            samples,
+            first(&numbers(l), l.length),
+            plane,
+            coverings,
+            scratch,
         ),
-    }
+    })
 }
 
-// What a call leaves.
-pub fn left_by(words: &[u8], k: Picture, way: Way, l: List) -> Left {
-    let samples = k.picture;
-    let list = numbers(l);
-    let mut plane = [7i64; 65];
-    let mut coverings = [9u8; 6];
-    let mut scratch = [-3i64; 65];
-    let n = decompose_by(
-        words,
-        way,
-        k.height,
-        k.width,
-        k.levels,
-        front::samples(&samples, k.samples),
-        front::bytes(&list, l.length),
-        front::values_mut(&mut plane, k.plane),
-        front::bytes_mut(&mut coverings, k.coverings),
-        front::values_mut(&mut scratch, k.scratch),
-    );
-    Left {
-        answer: numbered(n),
-        values: plane,
-        samples: samples,
-        coverings: coverings,
-        scratch: scratch,
-    }
+fn decompose_plain(words: &[u8], k: &Picture, choice: Choice, room: &mut Room) -> Answer<()> {
+    let samples = first(&k.picture, k.samples);
+    let plane = first_mut(&mut room.values, k.plane);
+    let coverings = first_mut(&mut room.coverings, k.coverings);
+    let scratch = first_mut(&mut room.scratch, k.scratch);
+    of_plain(match choice {
+        Choice::Free => plain::pyramid::decompose(
+            words, k.height, k.width, k.levels, samples, plane, coverings, scratch,
+        ),
+        Choice::Within(tolerance) => plain::pyramid::decompose_within(
+            words, k.height, k.width, k.levels, tolerance, samples, plane, coverings, scratch,
+        ),
+        Choice::Listed(tolerance, l) => plain::pyramid::decompose_listed(
+            words,
+            k.height,
+            k.width,
+            k.levels,
+            tolerance,
+            samples,
+            first(&numbers(l), l.length),
+            plane,
+            coverings,
+            scratch,
+        ),
+    })
 }
 
-// The same for a way without a list.
-pub fn unlisted(words: &[u8], k: Picture, way: Way) -> Left {
-    let none = List {
-        length: 0,
-        first: 0,
-        second: 0,
-    };
-    left_by(words, k, way, none)
-}
-
-pub fn decompose(words: &[u8], k: Picture) -> Pair {
-    pair(
-        unlisted(words, k, Way::Coder),
-        unlisted(words, k, Way::Plain),
+pub fn both(words: &[u8], k: &Picture, choice: Choice) -> Pair<()> {
+    compare(
+        Room::new(),
+        |room| decompose(k, choice, room),
+        |room| decompose_plain(words, k, choice, room),
     )
 }
 
-pub fn decompose_within(words: &[u8], k: Picture, tolerance: u64) -> Pair {
-    pair(
-        unlisted(words, k, Way::CoderWithin(tolerance)),
-        unlisted(words, k, Way::PlainWithin(tolerance)),
-    )
+// What the coder leaves.
+pub fn left_by(k: &Picture, choice: Choice) -> Room {
+    let mut room = Room::new();
+    let _ = decompose(k, choice, &mut room);
+    room
 }
 
 // A picture of 4 by 4 and 1 level, in slices of these lengths, without a tolerance and with the largest.
@@ -145,26 +122,24 @@ pub fn flat(
     scratch: usize,
     sample: u16,
 ) -> io::Result<()> {
-    put(rt, b"samples ", samples as u64)?;
-    put(rt, b"plane ", plane as u64)?;
-    put(rt, b"coverings ", coverings as u64)?;
-    put(rt, b"scratch ", scratch as u64)?;
-    put(rt, b"sample ", sample as u64)?;
+    put(rt, b"samples ", samples)?;
+    put(rt, b"plane ", plane)?;
+    put(rt, b"coverings ", coverings)?;
+    put(rt, b"scratch ", scratch)?;
+    put(rt, b"sample ", sample)?;
     let k = Picture {
         height: 4,
         width: 4,
         levels: 1,
-        samples: samples,
-        plane: plane,
-        coverings: coverings,
-        scratch: scratch,
+        samples,
+        plane,
+        coverings,
+        scratch,
         picture: [sample; 65],
     };
-    let d = tell(rt, true, b"decompose", decompose(words, k))?;
-    end(
-        rt,
-        tell(rt, d, b"within", decompose_within(words, k, 4095))?,
-    )
+    let d = tell(rt, true, b"decompose", both(words, &k, Choice::Free))?;
+    let t = tell(rt, d, b"within", both(words, &k, Choice::Within(4095)))?;
+    end(rt, t)
 }
 
 // Document 02, wish 5: a tie is settled by "how often a covering was chosen in all earlier blocks of the picture, level 1 first". The first two samples of the
@@ -175,8 +150,8 @@ pub fn ties(rt: &impl Print, words: &[u8]) -> io::Result<()> {
     put(rt, b"width ", 8)?;
     put(rt, b"levels ", 2)?;
     let mut picture = [0u16; 65];
-    put_sample(&mut picture, 0, 1);
-    put_sample(&mut picture, 8, 1);
+    store(&mut picture, 0, 1);
+    store(&mut picture, 8, 1);
     let k = Picture {
         height: 8,
         width: 8,
@@ -185,13 +160,13 @@ pub fn ties(rt: &impl Print, words: &[u8]) -> io::Result<()> {
         plane: 64,
         coverings: 5,
         scratch: 64,
-        picture: picture,
+        picture,
     };
-    tell_one(rt, b"decompose", decompose(words, k))?;
-    let left = unlisted(words, k, Way::Coder);
+    tell_one(rt, b"decompose", both(words, &k, Choice::Free))?;
+    let left = left_by(&k, Choice::Free);
     let mut buffer = [b'?'; 64];
-    let list = outcome(sheet::usage(front::bytes(&left.coverings, 5), &mut buffer));
-    rt.write_all(front::bytes(&buffer, list.a))
+    let end = of_coder(sheet::usage(first(&left.coverings, 5), &mut buffer)).unwrap_or(0);
+    rt.write_all(first(&buffer, end))
 }
 
 // Every slice of its exact length, and each with one place less and one more.

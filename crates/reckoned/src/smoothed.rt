@@ -1,9 +1,9 @@
 // One smoothing step, by the coder and by the plain second implementation: an example, the slices that it fills, and the limit of the step.
-use cases::safe::{put_value, value_at};
-use pairs::answers::{Pair, end, numbered, put, put_signed, tell, tell_one};
-use pairs::front;
-use pairs::left::{Left, pair};
+use cases::answers::{Answer, Pair, compare, of_coder, of_plain};
+use cases::safe::{first, first_mut, load, store};
+use pairs::answers::{end, put, tell, tell_one};
 use pairs::planes::{Plane, plane_of, zeros};
+use pairs::rooms::Room;
 use std::io;
 
 // A call: what is told of a plane, what it holds, the step, and the lengths of result and scratch.
@@ -21,83 +21,65 @@ fn step_of(k: Plane, step: u64) -> Step {
     Step {
         frame: k,
         plane: plane_of(k),
-        step: step,
+        step,
         result: k.plane,
         scratch: k.plane,
     }
 }
 
-fn smoothed_by_coder(s: Step) -> Left {
+fn smooth_step(s: &Step, room: &mut Room) -> Answer<()> {
     let k = s.frame;
-    let plane = s.plane;
-    let coverings = [k.covering; 6];
-    let mut result = [7i64; 65];
-    let mut scratch = [-3i64; 65];
-    let a = smoothing::smooth(
+    of_coder(smoothing::smooth(
         k.height,
         k.width,
         k.levels,
-        front::values(&plane, k.plane),
-        front::bytes(&coverings, k.coverings),
+        first(&s.plane, k.plane),
+        first(&[k.covering; 6], k.coverings),
         s.step,
-        front::values_mut(&mut result, s.result),
-        front::values_mut(&mut scratch, s.scratch),
-    );
-    Left {
-        answer: numbered(refusals::code(a)),
-        values: result,
-        samples: [0; 65],
-        coverings: coverings,
-        scratch: scratch,
-    }
+        first_mut(&mut room.values, s.result),
+        first_mut(&mut room.scratch, s.scratch),
+    ))
 }
 
-fn smoothed_by_plain(words: &[u8], s: Step) -> Left {
+fn smooth_plain(words: &[u8], s: &Step, room: &mut Room) -> Answer<()> {
     let k = s.frame;
-    let plane = s.plane;
-    let coverings = [k.covering; 6];
-    let mut result = [7i64; 65];
-    let mut scratch = [-3i64; 65];
-    let mut gradient = [5i64; 65];
+    let mut gradient = [5; 65];
     let mut decomposed = gradient;
     let mut projected = gradient;
-    let n = plain::smoothing::smooth(
+    of_plain(plain::smoothing::smooth(
         words,
         k.height,
         k.width,
         k.levels,
-        front::values(&plane, k.plane),
-        front::bytes(&coverings, k.coverings),
+        first(&s.plane, k.plane),
+        first(&[k.covering; 6], k.coverings),
         s.step,
-        front::values_mut(&mut result, s.result),
-        front::values_mut(&mut scratch, s.scratch),
+        first_mut(&mut room.values, s.result),
+        first_mut(&mut room.scratch, s.scratch),
         &mut gradient,
         &mut decomposed,
         &mut projected,
-    );
-    Left {
-        answer: numbered(n),
-        values: result,
-        samples: [0; 65],
-        coverings: coverings,
-        scratch: scratch,
-    }
+    ))
 }
 
-fn both(words: &[u8], s: Step) -> Pair {
-    pair(smoothed_by_coder(s), smoothed_by_plain(words, s))
+fn both(words: &[u8], s: &Step) -> Pair<()> {
+    compare(
+        Room::new(),
+        |room| smooth_step(s, room),
+        |room| smooth_plain(words, s, room),
+    )
 }
 
-pub fn smooth(words: &[u8], k: Plane, step: u64) -> Pair {
-    both(words, step_of(k, step))
+pub fn smooth(words: &[u8], k: Plane, step: u64) -> Pair<()> {
+    both(words, &step_of(k, step))
 }
 
 // The first four values, which are column 0 at height 4.
 fn put_column(rt: &impl Print, values: &[i64]) -> io::Result<()> {
-    put_signed(rt, b"column 0 ", value_at(values, 0))?;
-    put_signed(rt, b"", value_at(values, 1))?;
-    put_signed(rt, b"", value_at(values, 2))?;
-    put_signed(rt, b"", value_at(values, 3))
+    put(rt, b"column 0 ", load(values, 0))?;
+    put(rt, b"", load(values, 1))?;
+    put(rt, b"", load(values, 2))?;
+    put(rt, b"", load(values, 3))
 }
 
 // Document 02, wish 11: "The result is 16 times Y minus p times G." 4 by 4 and 1 level, covering 1, whose piece 0 is column 0. Its low-pass and its W1 are 1, all
@@ -108,23 +90,28 @@ pub fn example(rt: &impl Print, words: &[u8]) -> io::Result<()> {
     put(rt, b"levels ", 1)?;
     put(rt, b"step ", 3)?;
     let mut plane = [0i64; 65];
-    put_value(&mut plane, 0, 1);
-    put_value(&mut plane, 8, 1);
-    let mut s = step_of(zeros(4, 4, 1, 16, 1), 3);
-    s.plane = plane;
-    let left = smoothed_by_coder(s);
-    let agreed = tell(rt, true, b"smooth", both(words, s))?;
-    put_column(rt, &left.values)?;
+    store(&mut plane, 0, 1);
+    store(&mut plane, 8, 1);
+    let s = Step {
+        plane,
+        ..step_of(zeros(4, 4, 1, 16, 1), 3)
+    };
+    let agreed = tell(rt, true, b"smooth", both(words, &s))?;
+    let mut room = Room::new();
+    let _ = smooth_step(&s, &mut room);
+    put_column(rt, &room.values)?;
     end(rt, agreed)
 }
 
 fn filled(rt: &impl Print, words: &[u8], res: usize, scratch: usize) -> io::Result<()> {
-    put(rt, b"result ", res as u64)?;
-    put(rt, b"scratch ", scratch as u64)?;
-    let mut s = step_of(zeros(4, 4, 1, 16, 1), 1);
-    s.result = res;
-    s.scratch = scratch;
-    tell_one(rt, b"smooth", both(words, s))
+    put(rt, b"result ", res)?;
+    put(rt, b"scratch ", scratch)?;
+    let s = Step {
+        result: res,
+        scratch,
+        ..step_of(zeros(4, 4, 1, 16, 1), 1)
+    };
+    tell_one(rt, b"smooth", both(words, &s))
 }
 
 // The slices that a step fills, at 4 by 4: each of its exact length, one place less and one more.
@@ -147,15 +134,17 @@ fn limit(
     value: i64,
     step: u64,
 ) -> io::Result<()> {
-    put(rt, b"height ", height as u64)?;
-    put(rt, b"levels ", levels as u64)?;
-    put(rt, b"plane ", plane as u64)?;
-    put(rt, b"covering ", covering as u64)?;
-    put_signed(rt, b"value ", value)?;
+    put(rt, b"height ", height)?;
+    put(rt, b"levels ", levels)?;
+    put(rt, b"plane ", plane)?;
+    put(rt, b"covering ", covering)?;
+    put(rt, b"value ", value)?;
     put(rt, b"step ", step)?;
-    let mut k = zeros(height, 4, levels, plane, 1);
-    k.covering = covering;
-    k.value = value;
+    let k = Plane {
+        covering,
+        value,
+        ..zeros(height, 4, levels, plane, 1)
+    };
     tell_one(rt, b"smooth", smooth(words, k, step))
 }
 
@@ -165,7 +154,7 @@ pub fn limits(rt: &impl Print, words: &[u8]) -> io::Result<()> {
     limit(rt, words, 4, 1, 16, 1, 1, 255)?;
     limit(rt, words, 4, 1, 16, 1, 1, 256)?;
     limit(rt, words, 4, 1, 16, 1, 1, 4294967296)?;
-    limit(rt, words, 4, 1, 16, 1, 1, 18446744073709551615)?;
+    limit(rt, words, 4, 1, 16, 1, 1, u64::MAX)?;
     limit(rt, words, 4, 1, 16, 1, -1, 256)?;
     limit(rt, words, 4, 1, 16, 118, -1, 256)?;
     limit(rt, words, 4, 1, 15, 118, -1, 256)?;

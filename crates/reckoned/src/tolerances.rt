@@ -1,31 +1,27 @@
 // Decomposing with a tolerance, by the coder and by the plain second implementation: what it lets a block take at each level, and its limit.
-use crate::pictures::{Picture, Way, decompose_within, unlisted};
-use cases::safe::{byte_at, minus, over, put_sample, rest, times};
+use crate::pictures::{Choice, Picture, both, left_by};
+use cases::safe::{first_mut, load, over, rest, store, times};
 use pairs::answers::{end, put, tell, tell_one};
-use pairs::front;
-use pairs::left::pair;
 use std::io;
 
 // Fills columns of this height: each `part` rows hold `step` more than those above them.
 fn rows(height: usize, part: usize, step: usize, samples: &mut [u16]) {
-    let mut i: usize = 0;
-    while i < samples.len() {
-        put_sample(samples, i, times(step, over(rest(i, height), part)));
-        i += 1;
+    for i in 0..samples.len() {
+        store(samples, i, times(step, over(rest(i, height), part)));
     }
 }
 
 // Both on a picture, and the covering of its last block.
 fn last(rt: &impl Print, words: &[u8], k: Picture, tolerance: u64) -> io::Result<()> {
-    put(rt, b"height ", k.height as u64)?;
-    put(rt, b"width ", k.width as u64)?;
-    put(rt, b"levels ", k.levels as u64)?;
+    put(rt, b"height ", k.height)?;
+    put(rt, b"width ", k.width)?;
+    put(rt, b"levels ", k.levels)?;
     put(rt, b"tolerance ", tolerance)?;
-    let x = unlisted(words, k, Way::CoderWithin(tolerance));
-    let y = unlisted(words, k, Way::PlainWithin(tolerance));
-    let agreed = tell(rt, true, b"within", pair(x, y))?;
-    let covering = byte_at(&x.coverings, minus(k.coverings, 1));
-    put(rt, b"last covering ", covering as u64)?;
+    let choice = Choice::Within(tolerance);
+    let agreed = tell(rt, true, b"within", both(words, &k, choice))?;
+    let left = left_by(&k, choice);
+    let covering = load(&left.coverings, k.coverings.saturating_sub(1));
+    put(rt, b"last covering ", covering)?;
     end(rt, agreed)
 }
 
@@ -41,7 +37,7 @@ pub fn stairs() -> Picture {
         plane: 16,
         coverings: 1,
         scratch: 16,
-        picture: picture,
+        picture,
     }
 }
 
@@ -53,11 +49,11 @@ fn block(rt: &impl Print, words: &[u8], tolerance: u64) -> io::Result<()> {
 // costs 0, and 117 costs 36, but has been chosen before.
 fn strip(rt: &impl Print, words: &[u8], tolerance: u64) -> io::Result<()> {
     let mut picture = [0u16; 65];
-    rows(4, 1, 10, front::samples_mut(&mut picture, 16));
-    put_sample(&mut picture, 16, 9);
-    put_sample(&mut picture, 17, 9);
-    put_sample(&mut picture, 20, 9);
-    put_sample(&mut picture, 21, 9);
+    rows(4, 1, 10, first_mut(&mut picture, 16));
+    store(&mut picture, 16, 9);
+    store(&mut picture, 17, 9);
+    store(&mut picture, 20, 9);
+    store(&mut picture, 21, 9);
     let k = Picture {
         height: 4,
         width: 8,
@@ -66,7 +62,7 @@ fn strip(rt: &impl Print, words: &[u8], tolerance: u64) -> io::Result<()> {
         plane: 32,
         coverings: 2,
         scratch: 32,
-        picture: picture,
+        picture,
     };
     last(rt, words, k, tolerance)
 }
@@ -84,7 +80,7 @@ pub fn half() -> Picture {
         plane: 64,
         coverings: 5,
         scratch: 64,
-        picture: picture,
+        picture,
     }
 }
 
@@ -116,22 +112,22 @@ fn flat(
     sample: u16,
     tolerance: u64,
 ) -> io::Result<()> {
-    put(rt, b"height ", height as u64)?;
-    put(rt, b"levels ", levels as u64)?;
-    put(rt, b"samples ", samples as u64)?;
-    put(rt, b"sample ", sample as u64)?;
+    put(rt, b"height ", height)?;
+    put(rt, b"levels ", levels)?;
+    put(rt, b"samples ", samples)?;
+    put(rt, b"sample ", sample)?;
     put(rt, b"tolerance ", tolerance)?;
     let k = Picture {
-        height: height,
+        height,
         width: 4,
-        levels: levels,
-        samples: samples,
+        levels,
+        samples,
         plane: 16,
         coverings: 1,
         scratch: 16,
         picture: [sample; 65],
     };
-    tell_one(rt, b"within", decompose_within(words, k, tolerance))
+    tell_one(rt, b"within", both(words, &k, Choice::Within(tolerance)))
 }
 
 // Tolerances up to the largest number; and one past the limit in calls that are refused before for another reason.
@@ -140,7 +136,7 @@ pub fn limits(rt: &impl Print, words: &[u8]) -> io::Result<()> {
     flat(rt, words, 4, 1, 16, 4095, 4095)?;
     flat(rt, words, 4, 1, 16, 4095, 4096)?;
     flat(rt, words, 4, 1, 16, 4095, 4294967296)?;
-    flat(rt, words, 4, 1, 16, 4095, 18446744073709551615)?;
+    flat(rt, words, 4, 1, 16, 4095, u64::MAX)?;
     flat(rt, words, 4, 1, 16, 4096, 4096)?;
     flat(rt, words, 4, 1, 15, 4096, 4096)?;
     flat(rt, words, 4, 2, 15, 4096, 4096)?;

@@ -1,15 +1,17 @@
 // The limits of what the slices hold, and of quotas, thresholds and buffers, each with what lies past it.
 use crate::frames::tell_sheet;
-use pairs::answers::{put, put_signed, tell_one};
+use pairs::answers::{put, tell_one};
 use pairs::planes;
 use pairs::planes::{Plane, zeros};
 use plain_frame::safe::add;
 use std::io;
 
 fn covering(rt: &impl Print, words: &[u8], covering: u8) -> io::Result<()> {
-    put(rt, b"covering ", covering as u64)?;
-    let mut k = zeros(4, 4, 1, 16, 1);
-    k.covering = covering;
+    put(rt, b"covering ", covering)?;
+    let k = Plane {
+        covering,
+        ..zeros(4, 4, 1, 16, 1)
+    };
     tell_sheet(rt, words, k)
 }
 
@@ -30,10 +32,8 @@ fn coefficient(
     at: usize,
     value: i64,
 ) -> io::Result<()> {
-    put_signed(rt, band, value)?;
-    let mut k = frame;
-    k.at = at;
-    k.value = value;
+    put(rt, band, value)?;
+    let k = Plane { at, value, ..frame };
     tell_sheet(rt, words, k)
 }
 
@@ -93,9 +93,9 @@ pub fn quota(
     plane: usize,
     quota: u64,
 ) -> io::Result<()> {
-    put(rt, b"height ", height as u64)?;
-    put(rt, b"width ", width as u64)?;
-    put(rt, b"levels ", levels as u64)?;
+    put(rt, b"height ", height)?;
+    put(rt, b"width ", width)?;
+    put(rt, b"levels ", levels)?;
     put(rt, b"quota ", quota)?;
     tell_one(
         rt,
@@ -113,7 +113,7 @@ pub fn quotas(rt: &impl Print) -> io::Result<()> {
     quota(rt, 8, 8, 2, 64, 60)?;
     quota(rt, 8, 8, 2, 64, 61)?;
     quota(rt, 4, 4, 1, 16, 4294967296)?;
-    quota(rt, 4, 4, 1, 16, 18446744073709551615)
+    quota(rt, 4, 4, 1, 16, u64::MAX)
 }
 
 // The same for strips: 32 - 8, and 64 - 16.
@@ -140,17 +140,16 @@ pub fn limits(rt: &impl Print) -> io::Result<()> {
     limit(rt, 1000000)?;
     limit(rt, 1000001)?;
     limit(rt, 4294967296)?;
-    limit(rt, 18446744073709551615)
+    limit(rt, u64::MAX)
 }
 
 // The sheet of this plane, whose first entry is the value.
 fn room(rt: &impl Print, frame: Plane, value: i64, room: usize) -> io::Result<()> {
-    put(rt, b"height ", frame.height as u64)?;
-    put(rt, b"width ", frame.width as u64)?;
-    put_signed(rt, b"value ", value)?;
-    put(rt, b"room ", room as u64)?;
-    let mut k = frame;
-    k.value = value;
+    put(rt, b"height ", frame.height)?;
+    put(rt, b"width ", frame.width)?;
+    put(rt, b"value ", value)?;
+    put(rt, b"room ", room)?;
+    let k = Plane { value, ..frame };
     tell_one(rt, b"write", planes::write(k, room))
 }
 

@@ -1,25 +1,25 @@
 // Document 02, wish 8: "The joined numerators must be the two sets of numerators side by side, for cut planes too." Strips of many kinds are joined by the
 // coder and by the plain second implementation; the coder restores the joined one, the second implementation each of the two.
-use crate::joins::{Way, join_by};
+use crate::joins::{Strip, join_by_coder, join_by_plain};
 use case_planes::fill;
+use cases::answers::{Answer, compare};
 use cases::inputs::{Case, case_of, mixed};
-use cases::safe::{plus, sample_at, times, value_at};
-use cases::tally::{Tally, Verdict, counted, judged, same_bytes, same_values, tell_list};
+use cases::safe::{first, first_mut, plus, times};
+use cases::tally::{Tally, Verdict, tell_list};
 use pairs::answers::put;
-use pairs::front;
-use plain_frame::strips::strip_of;
+use plain_frame::frame::Frame;
 use std::io;
 
 // Keeps the largest of a plane, cuts it, puts 0 everywhere, or leaves it as it is.
 fn cut(k: Case, which: usize, plane: &mut [i64]) {
     match which {
         0 => {
-            keeping::keep(k.height, k.width, k.levels, plane, 7);
+            let _ = keeping::keep(k.height, k.width, k.levels, plane, 7);
         }
         1 => {
-            keeping::threshold(k.height, k.width, k.levels, plane, 100);
+            let _ = keeping::threshold(k.height, k.width, k.levels, plane, 100);
         }
-        2 => plain_frame::safe::clear(plane),
+        2 => plane.fill(0),
         _ => {}
     }
 }
@@ -27,44 +27,40 @@ fn cut(k: Case, which: usize, plane: &mut [i64]) {
 // The plane and the coverings of one strip.
 fn fill_strip(k: Case, which: usize, plane: &mut [i64], coverings: &mut [u8]) {
     fill(k, plane, coverings);
-    cut(k, which, front::values_mut(plane, k.n));
+    cut(k, which, first_mut(plane, k.n));
 }
 
-// What joining answers and leaves. Room for 2,048 places, and 170 blocks.
-#[derive(Clone, Copy)]
-struct Joined {
-    answer: u32,
+// The slices of the joined strip. Room for 2,048 places, and 170 blocks.
+#[derive(Clone, Copy, PartialEq)]
+struct Room {
     plane: [i64; 2048],
     coverings: [u8; 170],
 }
 
-fn joined_by(
-    way: Way,
-    k: Case,
-    left_plane: &[i64],
-    left_coverings: &[u8],
-    right_plane: &[i64],
-    right_coverings: &[u8],
-) -> Joined {
-    let mut plane = [7i64; 2048];
-    let mut coverings = [9u8; 170];
-    let one = strip_of(k.height, k.width, k.levels);
-    let answer = join_by(
-        way,
-        one,
-        left_plane,
-        left_coverings,
-        one,
-        right_plane,
-        right_coverings,
-        front::values_mut(&mut plane, times(2, k.n)),
-        front::bytes_mut(&mut coverings, times(2, k.b)),
-    );
-    Joined {
-        answer: answer,
-        plane: plane,
-        coverings: coverings,
+// Other values than a call leaves.
+fn before() -> Room {
+    Room {
+        plane: [7; 2048],
+        coverings: [9; 170],
     }
+}
+
+fn by_coder(k: Case, left: Strip, right: Strip, room: &mut Room) -> Answer<()> {
+    join_by_coder(
+        left,
+        right,
+        first_mut(&mut room.plane, times(2, k.n)),
+        first_mut(&mut room.coverings, times(2, k.b)),
+    )
+}
+
+fn by_plain(k: Case, left: Strip, right: Strip, room: &mut Room) -> Answer<()> {
+    join_by_plain(
+        left,
+        right,
+        first_mut(&mut room.plane, times(2, k.n)),
+        first_mut(&mut room.coverings, times(2, k.b)),
+    )
 }
 
 // What restoring leaves.
@@ -75,125 +71,77 @@ struct Restored {
 }
 
 // The joined strip, by the coder.
-fn whole(k: Case, x: Joined) -> Restored {
+fn whole(k: Case, joined: &Room) -> Restored {
     let n = times(2, k.n);
-    let plane = x.plane;
-    let coverings = x.coverings;
-    let mut numerators = [7i64; 2048];
-    let mut samples = [9u16; 2048];
-    let mut scratch = [0i64; 2048];
-    coder::restore(
+    let mut numerators = [7; 2048];
+    let mut samples = [9; 2048];
+    let mut scratch = [0; 2048];
+    let _ = coder::restore(
         k.height,
         times(2, k.width),
         k.levels,
-        front::values(&plane, n),
-        front::bytes(&coverings, times(2, k.b)),
-        front::values_mut(&mut numerators, n),
-        front::samples_mut(&mut samples, n),
-        front::values_mut(&mut scratch, n),
+        first(&joined.plane, n),
+        first(&joined.coverings, times(2, k.b)),
+        first_mut(&mut numerators, n),
+        first_mut(&mut samples, n),
+        first_mut(&mut scratch, n),
     );
     Restored {
-        numerators: numerators,
-        samples: samples,
+        numerators,
+        samples,
     }
 }
 
 // One strip, by the second implementation.
-fn part(words: &[u8], k: Case, plane: &[i64], coverings: &[u8]) -> Restored {
-    let mut numerators = [3i64; 2048];
-    let mut samples = [5u16; 2048];
-    let mut scratch = [0i64; 2048];
-    plain::pyramid::restore(
+fn part(words: &[u8], k: Case, strip: Strip) -> Restored {
+    let mut numerators = [3; 2048];
+    let mut samples = [5; 2048];
+    let mut scratch = [0; 2048];
+    let _ = plain::pyramid::restore(
         words,
         k.height,
         k.width,
         k.levels,
-        plane,
-        coverings,
-        front::values_mut(&mut scratch, k.n),
-        front::values_mut(&mut numerators, k.n),
-        front::samples_mut(&mut samples, k.n),
+        strip.plane,
+        strip.coverings,
+        first_mut(&mut scratch, k.n),
+        first_mut(&mut numerators, k.n),
+        first_mut(&mut samples, k.n),
     );
     Restored {
-        numerators: numerators,
-        samples: samples,
+        numerators,
+        samples,
     }
 }
 
-// Whether the first n values are those of the left strip, and the next n those of the right.
-fn beside_values(n: usize, whole: &[i64], left: &[i64], right: &[i64]) -> bool {
-    let mut i: usize = 0;
-    while i < n {
-        if value_at(whole, i) != value_at(left, i) {
-            return false;
-        }
-        if value_at(whole, plus(n, i)) != value_at(right, i) {
-            return false;
-        }
-        i += 1;
-    }
-    true
-}
-
-fn beside_samples(n: usize, whole: &[u16], left: &[u16], right: &[u16]) -> bool {
-    let mut i: usize = 0;
-    while i < n {
-        if sample_at(whole, i) != sample_at(left, i) {
-            return false;
-        }
-        if sample_at(whole, plus(n, i)) != sample_at(right, i) {
-            return false;
-        }
-        i += 1;
-    }
-    true
-}
-
-fn are_beside(n: usize, whole: Restored, left: Restored, right: Restored) -> bool {
-    let v = beside_values(n, &whole.numerators, &left.numerators, &right.numerators);
-    let s = beside_samples(n, &whole.samples, &left.samples, &right.samples);
-    v && s
-}
-
-fn same(x: Joined, y: Joined) -> bool {
-    let p = same_values(&x.plane, &y.plane);
-    let c = same_bytes(&x.coverings, &y.coverings);
-    p && c
+// Whether the first n places are those of the left strip, and the next n those of the right.
+fn are_beside<T: PartialEq>(n: usize, whole: &[T], left: &[T], right: &[T]) -> bool {
+    let end = times(2, n);
+    whole.get(..n) == left.get(..n) && whole.get(n..end) == right.get(..n)
 }
 
 // Both join two strips; where they accept, the numerators and the samples are side by side.
-fn verdict(
-    words: &[u8],
-    k: Case,
-    left_plane: &[i64],
-    left_coverings: &[u8],
-    right_plane: &[i64],
-    right_coverings: &[u8],
-) -> Verdict {
-    let x = joined_by(
-        Way::Coder,
-        k,
-        left_plane,
-        left_coverings,
-        right_plane,
-        right_coverings,
+fn verdict(words: &[u8], k: Case, left: Strip, right: Strip) -> Verdict {
+    let p = compare(
+        before(),
+        |room| by_coder(k, left, right, room),
+        |room| by_plain(k, left, right, room),
     );
-    let y = joined_by(
-        Way::Plain,
-        k,
-        left_plane,
-        left_coverings,
-        right_plane,
-        right_coverings,
-    );
-    let agreed = same(x, y);
-    if x.answer != 0 {
-        return judged(x.answer, y.answer, agreed);
+    if p.coder.is_err() {
+        return p.verdict();
     }
-    let left = part(words, k, left_plane, left_coverings);
-    let right = part(words, k, right_plane, right_coverings);
-    let beside = are_beside(k.n, whole(k, x), left, right);
-    judged(x.answer, y.answer, agreed && beside)
+    let mut joined = before();
+    let _ = by_coder(k, left, right, &mut joined);
+    let w = whole(k, &joined);
+    let l = part(words, k, left);
+    let r = part(words, k, right);
+    let beside = are_beside(k.n, &w.numerators, &l.numerators, &r.numerators)
+        && are_beside(k.n, &w.samples, &l.samples, &r.samples);
+    if beside {
+        p.verdict()
+    } else {
+        Verdict::Differs
+    }
 }
 
 // Four kinds of pictures: a ramp, noise, faint noise and stripes; and planes of any values, all of them or few.
@@ -216,13 +164,20 @@ fn two_strips(words: &[u8], left: Case, right: Case, which: usize) -> Verdict {
     let mut right_coverings = left_coverings;
     fill_strip(left, which, &mut left_plane, &mut left_coverings);
     fill_strip(right, which, &mut right_plane, &mut right_coverings);
+    let frame = Frame::new(left.height, left.width, left.levels);
     verdict(
         words,
         left,
-        front::values(&left_plane, left.n),
-        front::bytes(&left_coverings, left.b),
-        front::values(&right_plane, left.n),
-        front::bytes(&right_coverings, left.b),
+        Strip {
+            frame,
+            plane: first(&left_plane, left.n),
+            coverings: first(&left_coverings, left.b),
+        },
+        Strip {
+            frame,
+            plane: first(&right_plane, left.n),
+            coverings: first(&right_coverings, left.b),
+        },
     )
 }
 
@@ -235,13 +190,7 @@ fn call(words: &[u8], height: usize, width: usize, levels: usize, c: usize) -> V
 }
 
 fn calls(words: &[u8], height: usize, width: usize, levels: usize) -> Tally {
-    let mut t = cases::tally::none();
-    let mut c: usize = 0;
-    while c < 144 {
-        t = counted(t, call(words, height, width, levels, c));
-        c += 1;
-    }
-    t
+    Tally::of_numbers(144, |c| call(words, height, width, levels, c))
 }
 
 // How many calls, and how many of them are accepted; some have a covering that is none.
@@ -252,9 +201,9 @@ fn strips(
     width: usize,
     levels: usize,
 ) -> io::Result<()> {
-    put(rt, b"height ", height as u64)?;
-    put(rt, b"width ", width as u64)?;
-    put(rt, b"levels ", levels as u64)?;
+    put(rt, b"height ", height)?;
+    put(rt, b"width ", width)?;
+    put(rt, b"levels ", levels)?;
     tell_list(rt, b"side by side", calls(words, height, width, levels))
 }
 

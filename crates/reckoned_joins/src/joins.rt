@@ -1,61 +1,61 @@
 // Joining two strips, by the coder and by the plain second implementation: an example, and the limits of the checks, each with what lies past it.
-use cases::safe::{plus, put_value, times, value_at};
-use cases::tally::{same_bytes, same_values};
-use pairs::answers::{Pair, numbered, put, put_signed, tell_one};
-use pairs::front;
+use cases::answers::{Answer, Pair, compare, of_coder, of_plain};
+use cases::safe::{first, first_mut, load, plus, store, times};
+use pairs::answers::{put, tell_one};
 use pairs::planes::{Plane, plane_of, zeros};
-use plain_frame::safe::{signed, size};
-use plain_frame::strips::{Strip, strip_of};
+use plain_frame::frame::Frame;
 use std::io;
 
-// Who joins.
-#[derive(Drop)]
-pub enum Way {
-    Coder,
-    Plain,
+// A strip that is lent: height, width and levels, plane and coverings.
+#[derive(Clone, Copy)]
+pub struct Strip<'a> {
+    pub frame: Frame,
+    pub plane: &'a [i64],
+    pub coverings: &'a [u8],
 }
 
-pub fn join_by(
-    way: Way,
+pub fn join_by_coder(
     left: Strip,
-    left_plane: &[i64],
-    left_coverings: &[u8],
     right: Strip,
-    right_plane: &[i64],
-    right_coverings: &[u8],
     plane: &mut [i64],
     coverings: &mut [u8],
-) -> u32 {
-    match way {
-        Way::Coder => refusals::code(joining::join(
-            left.extent.height,
-            left.extent.width,
-            left.levels,
-            left_plane,
-            left_coverings,
-            right.extent.height,
-            right.extent.width,
-            right.levels,
-            right_plane,
-            right_coverings,
-            plane,
-            coverings,
-        )),
-        Way::Plain => plain::strips::join(
-            left.extent.height,
-            left.extent.width,
-            left.levels,
-            left_plane,
-            left_coverings,
-            right.extent.height,
-            right.extent.width,
-            right.levels,
-            right_plane,
-            right_coverings,
-            plane,
-            coverings,
-        ),
-    }
+) -> Answer<()> {
+    of_coder(joining::join(
+        left.frame.extent.height,
+        left.frame.extent.width,
+        left.frame.levels,
+        left.plane,
+        left.coverings,
+        right.frame.extent.height,
+        right.frame.extent.width,
+        right.frame.levels,
+        right.plane,
+        right.coverings,
+        plane,
+        coverings,
+    ))
+}
+
+pub fn join_by_plain(
+    left: Strip,
+    right: Strip,
+    plane: &mut [i64],
+    coverings: &mut [u8],
+) -> Answer<()> {
+    of_plain(plain::strips::join(
+        left.frame.extent.height,
+        left.frame.extent.width,
+        left.frame.levels,
+        left.plane,
+        left.coverings,
+        right.frame.extent.height,
+        right.frame.extent.width,
+        right.frame.levels,
+        right.plane,
+        right.coverings,
+        plane,
+        coverings,
+    ))
 }
 
 // A call: the two strips, and the lengths of the joined plane and coverings.
@@ -67,90 +67,86 @@ struct Call {
     coverings: usize,
 }
 
-// What a call answers and leaves. Room for 8 by 16 and 2 levels, and one place more.
-#[derive(Clone, Copy)]
-struct Joined {
-    answer: u32,
+// The slices of the joined strip. Room for 8 by 16 and 2 levels, and one place more.
+#[derive(Clone, Copy, PartialEq)]
+struct Room {
     plane: [i64; 129],
     coverings: [u8; 11],
 }
 
-fn told(k: Plane) -> Strip {
-    strip_of(k.height, k.width, k.levels)
+// Other values than a call leaves.
+fn before() -> Room {
+    Room {
+        plane: [7; 129],
+        coverings: [9; 11],
+    }
 }
 
-fn joined_by(way: Way, k: Call) -> Joined {
+fn told(k: Plane) -> Frame {
+    Frame::new(k.height, k.width, k.levels)
+}
+
+// The coder, into so many places of a plane and so many coverings.
+fn by_coder(left: Strip, right: Strip, n: usize, b: usize, room: &mut Room) -> Answer<()> {
+    join_by_coder(
+        left,
+        right,
+        first_mut(&mut room.plane, n),
+        first_mut(&mut room.coverings, b),
+    )
+}
+
+fn by_plain(left: Strip, right: Strip, n: usize, b: usize, room: &mut Room) -> Answer<()> {
+    join_by_plain(
+        left,
+        right,
+        first_mut(&mut room.plane, n),
+        first_mut(&mut room.coverings, b),
+    )
+}
+
+// Both. A refused call leaves the slices as they were.
+fn join_strips(left: Strip, right: Strip, n: usize, b: usize) -> Pair<()> {
+    compare(
+        before(),
+        |room| by_coder(left, right, n, b, room),
+        |room| by_plain(left, right, n, b, room),
+    )
+    .strict()
+}
+
+fn join(k: Call) -> Pair<()> {
     let left_plane = plane_of(k.left);
     let left_coverings = [k.left.covering; 6];
     let right_plane = plane_of(k.right);
     let right_coverings = [k.right.covering; 6];
-    let mut plane = [7i64; 129];
-    let mut coverings = [9u8; 11];
-    let answer = join_by(
-        way,
-        told(k.left),
-        front::values(&left_plane, k.left.plane),
-        front::bytes(&left_coverings, k.left.coverings),
-        told(k.right),
-        front::values(&right_plane, k.right.plane),
-        front::bytes(&right_coverings, k.right.coverings),
-        front::values_mut(&mut plane, k.plane),
-        front::bytes_mut(&mut coverings, k.coverings),
-    );
-    Joined {
-        answer: answer,
-        plane: plane,
-        coverings: coverings,
-    }
-}
-
-// Whether a refused call left the slices as they were.
-fn is_kept(x: Joined) -> bool {
-    if x.answer == 0 {
-        return true;
-    }
-    let plane = [7i64; 129];
-    let coverings = [9u8; 11];
-    let p = same_values(&x.plane, &plane);
-    let c = same_bytes(&x.coverings, &coverings);
-    p && c
-}
-
-fn same(x: Joined, y: Joined) -> bool {
-    let k = is_kept(x);
-    let p = same_values(&x.plane, &y.plane);
-    let c = same_bytes(&x.coverings, &y.coverings);
-    k && p && c
-}
-
-fn pair(x: Joined, y: Joined) -> Pair {
-    let a = x.answer;
-    let b = y.answer;
-    Pair {
-        coder: numbered(a),
-        plain: numbered(b),
-        same: same(x, y),
-    }
-}
-
-fn join(k: Call) -> Pair {
-    pair(joined_by(Way::Coder, k), joined_by(Way::Plain, k))
+    let left = Strip {
+        frame: told(k.left),
+        plane: first(&left_plane, k.left.plane),
+        coverings: first(&left_coverings, k.left.coverings),
+    };
+    let right = Strip {
+        frame: told(k.right),
+        plane: first(&right_plane, k.right.plane),
+        coverings: first(&right_coverings, k.right.coverings),
+    };
+    join_strips(left, right, k.plane, k.coverings)
 }
 
 // Two strips, and joined slices that are as long as both of theirs.
 fn both(left: Plane, right: Plane) -> Call {
     Call {
-        left: left,
-        right: right,
+        left,
+        right,
         plane: plus(left.plane, right.plane),
         coverings: plus(left.coverings, right.coverings),
     }
 }
 
 fn put_told(rt: &impl Print, k: Plane) -> io::Result<()> {
-    put(rt, b"height ", k.height as u64)?;
-    put(rt, b"width ", k.width as u64)?;
-    put(rt, b"levels ", k.levels as u64)
+    put(rt, b"height ", k.height)?;
+    put(rt, b"width ", k.width)?;
+    put(rt, b"levels ", k.levels)
 }
 
 fn shapes(rt: &impl Print, left: Plane, right: Plane) -> io::Result<()> {
@@ -200,7 +196,7 @@ pub fn depths(rt: &impl Print) -> io::Result<()> {
     shapes(rt, small(4, 4, 1), small(4, 4, 2))?;
     shapes(rt, small(4, 4, 1), small(4, 4, 9))?;
     shapes(rt, small(4, 4, 2), small(4, 4, 2))?;
-    shapes(rt, small(4, 4, 1), small(4, 4, 18446744073709551615))?;
+    shapes(rt, small(4, 4, 1), small(4, 4, usize::MAX))?;
     deep_strips(rt)
 }
 
@@ -245,8 +241,8 @@ pub fn wide(rt: &impl Print) -> io::Result<()> {
 }
 
 fn put_lent(rt: &impl Print, plane: usize, coverings: usize) -> io::Result<()> {
-    put(rt, b"plane ", plane as u64)?;
-    put(rt, b"coverings ", coverings as u64)
+    put(rt, b"plane ", plane)?;
+    put(rt, b"coverings ", coverings)
 }
 
 // Two strips like this one but for the lengths of the slices.
@@ -260,24 +256,26 @@ fn lengths(
     plane: usize,
     coverings: usize,
 ) -> io::Result<()> {
-    put(rt, b"width ", one.width as u64)?;
+    put(rt, b"width ", one.width)?;
     print!(rt; "left ")?;
     put_lent(rt, left_plane, left_coverings)?;
     print!(rt; "right ")?;
     put_lent(rt, right_plane, right_coverings)?;
     print!(rt; "joined ")?;
     put_lent(rt, plane, coverings)?;
-    let mut left = one;
-    left.plane = left_plane;
-    left.coverings = left_coverings;
-    let mut right = one;
-    right.plane = right_plane;
-    right.coverings = right_coverings;
     let k = Call {
-        left: left,
-        right: right,
-        plane: plane,
-        coverings: coverings,
+        left: Plane {
+            plane: left_plane,
+            coverings: left_coverings,
+            ..one
+        },
+        right: Plane {
+            plane: right_plane,
+            coverings: right_coverings,
+            ..one
+        },
+        plane,
+        coverings,
     };
     tell_one(rt, b"join", join(k))
 }
@@ -313,8 +311,8 @@ pub fn joined_frames(rt: &impl Print) -> io::Result<()> {
 // Strips of 4 by 4 with these coverings, where the joined plane is too short.
 fn short(rt: &impl Print, left: u8, right: u8) -> io::Result<()> {
     put(rt, b"joined plane ", 31)?;
-    put(rt, b"left covering ", left as u64)?;
-    put(rt, b"right covering ", right as u64)?;
+    put(rt, b"left covering ", left)?;
+    put(rt, b"right covering ", right)?;
     let k = Call {
         left: covered(left, 0, 0),
         right: covered(right, 0, 0),
@@ -326,17 +324,18 @@ fn short(rt: &impl Print, left: u8, right: u8) -> io::Result<()> {
 
 // A strip of 4 by 4 with this covering, and this value at a place among zeros.
 fn covered(covering: u8, at: usize, value: i64) -> Plane {
-    let mut k = zeros(4, 4, 1, 16, 1);
-    k.covering = covering;
-    k.at = at;
-    k.value = value;
-    k
+    Plane {
+        covering,
+        at,
+        value,
+        ..zeros(4, 4, 1, 16, 1)
+    }
 }
 
 fn put_held(rt: &impl Print, k: Plane) -> io::Result<()> {
-    put(rt, b"covering ", k.covering as u64)?;
-    put(rt, b"place ", k.at as u64)?;
-    put_signed(rt, b"value ", k.value)
+    put(rt, b"covering ", k.covering)?;
+    put(rt, b"place ", k.at)?;
+    put(rt, b"value ", k.value)
 }
 
 fn contents(rt: &impl Print, left: Plane, right: Plane) -> io::Result<()> {
@@ -371,49 +370,18 @@ pub fn values(rt: &impl Print) -> io::Result<()> {
 
 // Each entry of a plane whose columns have 8 places holds the number of its column, and so much more.
 fn columns(more: usize, plane: &mut [i64]) {
-    let mut i: usize = 0;
-    while i < plane.len() {
-        put_value(plane, i, signed(plus(more, i / 8) as u64));
-        i += 1;
+    for i in 0..plane.len() {
+        store(plane, i, plus(more, i / 8));
     }
 }
 
 // A row of the joined plane.
 fn put_row(rt: &impl Print, plane: &[i64], row: usize) -> io::Result<()> {
     print!(rt; "row {row}:")?;
-    let mut col: usize = 0;
-    while col < 16 {
-        let value = size(value_at(plane, plus(times(8, col), row)));
-        print!(rt; " {value}")?;
-        col += 1;
+    for col in 0..16 {
+        print!(rt; " {}", load(plane, plus(times(8, col), row)))?;
     }
-    print!(rt; "\n")
-}
-
-fn columns_by(way: Way) -> Joined {
-    let mut left_plane = [0i64; 64];
-    let mut right_plane = [0i64; 64];
-    columns(0, &mut left_plane);
-    columns(10, &mut right_plane);
-    let mut plane = [7i64; 129];
-    let mut coverings = [9u8; 11];
-    let one = strip_of(8, 8, 2);
-    let answer = join_by(
-        way,
-        one,
-        &left_plane,
-        b"ABCDE",
-        one,
-        &right_plane,
-        b"abcde",
-        front::values_mut(&mut plane, 128),
-        front::bytes_mut(&mut coverings, 10),
-    );
-    Joined {
-        answer: answer,
-        plane: plane,
-        coverings: coverings,
-    }
+    println!(rt)
 }
 
 // Document 02, wish 8: "Each band and each level's coverings hold the left part's columns, then the right's." Two strips of 8 by 8 and 2 levels. The entries
@@ -424,12 +392,26 @@ pub fn example(rt: &impl Print) -> io::Result<()> {
     put(rt, b"height ", 8)?;
     put(rt, b"width ", 8)?;
     put(rt, b"levels ", 2)?;
-    let x = columns_by(Way::Coder);
-    let y = columns_by(Way::Plain);
-    tell_one(rt, b"join", pair(x, y))?;
-    put_row(rt, &x.plane, 0)?;
-    put_row(rt, &x.plane, 4)?;
+    let mut left_plane = [0; 64];
+    let mut right_plane = [0; 64];
+    columns(0, &mut left_plane);
+    columns(10, &mut right_plane);
+    let left = Strip {
+        frame: Frame::new(8, 8, 2),
+        plane: &left_plane,
+        coverings: b"ABCDE",
+    };
+    let right = Strip {
+        frame: Frame::new(8, 8, 2),
+        plane: &right_plane,
+        coverings: b"abcde",
+    };
+    tell_one(rt, b"join", join_strips(left, right, 128, 10))?;
+    let mut room = before();
+    let _ = by_coder(left, right, 128, 10, &mut room);
+    put_row(rt, &room.plane, 0)?;
+    put_row(rt, &room.plane, 4)?;
     print!(rt; "coverings: ")?;
-    rt.write_all(front::bytes(&x.coverings, 10))?;
-    print!(rt; "\n")
+    rt.write_all(first(&room.coverings, 10))?;
+    println!(rt)
 }

@@ -1,13 +1,15 @@
 // The limits of texts that are read, each with what lies past it.
-use pairs::answers::{Pair, put, tell_one};
-use pairs::front;
+use cases::answers::Pair;
+use cases::safe::first;
+use pairs::answers::{put, tell_one};
 use pairs::planes::read_text;
+use plain_frame::frame::Frame;
 use plain_text::writing::put_text;
 use std::io;
 
 // A line, or none where it is empty.
 fn put_line(text: &mut [u8], at: usize, line: &[u8]) -> usize {
-    if line.len() == 0 {
+    if line.is_empty() {
         return at;
     }
     let e = put_text(text, at, line);
@@ -31,10 +33,10 @@ fn show_line(rt: &impl Print, line: &[u8]) -> io::Result<()> {
 }
 
 // Both read the sheet with these lines, into slices of these lengths.
-fn read_sheet(head: &[u8], block: &[u8], entry: &[u8], n: usize, b: usize) -> Pair {
+fn read_sheet(head: &[u8], block: &[u8], entry: &[u8], n: usize, b: usize) -> Pair<Frame> {
     let mut text = [0u8; 256];
     let end = put_sheet(&mut text, head, block, entry);
-    read_text(front::bytes(&text, end), n, b)
+    read_text(first(&text, end), n, b)
 }
 
 // The sheet with these lines, in slices for 4 by 4 and 1 level.
@@ -93,10 +95,11 @@ pub fn strip_depths(rt: &impl Print) -> io::Result<()> {
 }
 
 // Height, width and levels as they were read, 0 where the sheet is refused.
-fn told(rt: &impl Print, p: Pair) -> io::Result<()> {
-    put(rt, b"height ", p.coder.a as u64)?;
-    put(rt, b"width ", p.coder.b as u64)?;
-    put(rt, b"levels ", p.coder.c as u64)?;
+fn told(rt: &impl Print, p: Pair<Frame>) -> io::Result<()> {
+    let frame = p.coder.unwrap_or(Frame::new(0, 0, 0));
+    put(rt, b"height ", frame.extent.height)?;
+    put(rt, b"width ", frame.extent.width)?;
+    put(rt, b"levels ", frame.levels)?;
     tell_one(rt, b"read", p)
 }
 

@@ -1,13 +1,7 @@
 -- Refusals and answers by the numbers of document 01, "Turned-back work". Assumes nothing.
-use Rattle.std.specs.Prelude.{Bool, true, false, ℕ, zero, suc}
+use Rattle.std.specs.Prelude.{Bool, true, false, ℕ, zero, suc, Result, Ok, Err}
 use Rattle.refusals.specs.declared.Refusal.{Refusal}
 use Rattle.refusals.specs.declared.Refusal.TheVariants.{Side, Depth, Frame, Sample, Covering, Coefficient, Quota, Threshold, Text, Buffer, Sequence, Bench, Tolerance, Listing, Mismatch, JoinedWidth, Window, Unlisted, Step, Master, Steps}
-use Rattle.refusals.specs.declared.Answer.{Answer}
-use Rattle.refusals.specs.declared.Answer.TheVariants.{Done, Refused}
-use Rattle.refusals.specs.declared.Counted.{Counted}
-use Rattle.refusals.specs.declared.Counted.TheVariants.{Count, Refused as Rejected}
-use Rattle.refusals.specs.declared.Shown.{Shown}
-use Rattle.refusals.specs.declared.Shown.TheVariants.{Block, Nothing, Refused as Turned}
 
 -- The table's number of a refusal.
 abbrev pub number_of : Refusal → ℕ
@@ -33,30 +27,21 @@ number_of Step = 19
 number_of Master = 20
 number_of Steps = 21
 
--- The number of an answer: 0 where the call is accepted.
-abbrev pub answer_of : Answer → ℕ
-answer_of Done = 0
-answer_of (Refused r) = number_of r
+-- The number of an answer: 0 where the call is accepted, whatever it gives.
+abbrev pub answer_of : {A : Type 0} → Result A Refusal → ℕ
+answer_of (Ok a) = 0
+answer_of (Err r) = number_of r
 
--- The number of an answer with a count, and the count, 0 where the call is refused.
-abbrev pub counted_of : Counted → ℕ
-counted_of (Count n) = 0
-counted_of (Rejected r) = number_of r
+-- The count of an answer that gives one, 0 where the call is refused.
+abbrev pub count_of : Result ℕ Refusal → ℕ
+count_of (Ok n) = n
+count_of (Err r) = 0
 
-abbrev pub count_of : Counted → ℕ
-count_of (Count n) = n
-count_of (Rejected r) = 0
-
--- The number of an answer that shows a block, and whether there is one: 1 where the slice holds it, 0 where there is none and where the call is refused.
-abbrev pub shown_of : Shown → ℕ
-shown_of Block = 0
-shown_of Nothing = 0
-shown_of (Turned r) = number_of r
-
-abbrev pub flag_of : Shown → ℕ
-flag_of Block = 1
-flag_of Nothing = 0
-flag_of (Turned r) = 0
+-- Whether an answer shows a block: 1 where the slice holds it, 0 where there is none and where the call is refused.
+abbrev pub flag_of : Result Bool Refusal → ℕ
+flag_of (Ok true) = 1
+flag_of (Ok false) = 0
+flag_of (Err r) = 0
 
 -- One check of a call: the refusal's number where its condition holds, and else what the further checks give. 0 is acceptance.
 abbrev pub refuse_if : Bool → ℕ → ℕ → ℕ

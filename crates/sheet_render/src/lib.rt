@@ -21,13 +21,10 @@ pub fn blocks_length(coverings: &[u8], height: u32, width: u32, levels: u32) -> 
     ensures { (result ≡ length (blocks_text levels height width coverings.now)) × (result ≤ 8388608) }
 {
     let mut k = places::walk::first_block(height, width, levels);
-    let mut n: usize = 0;
-    let mut i = 0;
-    while i < coverings.len() {
-        let c = coverings[i];
-        n += text::write::four_width(k.level, k.row, k.col, c as u32, 10);
+    let mut n = 0;
+    for covering in coverings {
+        n += text::write::four_width(k.level, k.row, k.col, *covering as u32, b'\n');
         k = places::walk::step(k, height, width);
-        i += 1;
     }
     n
 }
@@ -49,12 +46,9 @@ pub fn put_blocks(
 {
     let mut k = places::walk::first_block(height, width, levels);
     let mut p = at;
-    let mut i = 0;
-    while i < coverings.len() {
-        let c = coverings[i];
-        p = text::write::put_four(out, p, k.level, k.row, k.col, c as u32, 10);
+    for covering in coverings {
+        p = text::write::put_four(out, p, k.level, k.row, k.col, *covering as u32, b'\n');
         k = places::walk::step(k, height, width);
-        i += 1;
     }
     p
 }
@@ -90,7 +84,8 @@ pub fn entries_length(plane: &[i64], height: u32, width: u32, levels: u32) -> us
     ensures { (result ≡ length (entries_text levels height width plane.now)) × (result ≤ 16777216) }
 {
     let mut k = places::walk::first_entry(height, width, levels);
-    let mut n: usize = 0;
+    let mut n = 0;
+    // Kept: no index is counted: the walk knows its own end.
     while 0 < k.left {
         let i = places::checks::index_of(k, height, width);
         let v = plane[i];
@@ -117,6 +112,7 @@ pub fn put_entries(
 {
     let mut k = places::walk::first_entry(height, width, levels);
     let mut p = at;
+    // Kept: no index is counted: the walk knows its own end.
     while 0 < k.left {
         let i = places::checks::index_of(k, height, width);
         let v = plane[i];
@@ -133,9 +129,9 @@ fn put_head(out: &mut [u8], height: u32, width: u32, levels: u32) -> usize
     ensures out_after { out.new ≡ stamp 0 (head_part height width levels) out.old }
 {
     let p = text::write::put_bytes(out, 0, b"height width levels\n");
-    let q = text::write::put_cell(out, p, height, 32);
-    let r = text::write::put_cell(out, q, width, 32);
-    text::write::put_cell(out, r, levels, 10)
+    let q = text::write::put_cell(out, p, height, b' ');
+    let r = text::write::put_cell(out, q, width, b' ');
+    text::write::put_cell(out, r, levels, b'\n')
 }
 
 // Writes the line of names of the blocks, and their lines.

@@ -152,9 +152,6 @@ moved h w k b y x i c a d =
       first = i.first;
     }
 
-pub walking : (h w : ℕ) (k : Front) (f : Five) → Standing h w k → f.second ≤ 3 → f.third < k.height → f.fourth < k.width → Inside h w (walk_to k f)
-walking h w k f s a b c = moved h w (walk_at k 0 0 0) f.second f.third f.fourth s a b c
-
 -- its bands are small
 pub small : (h w : ℕ) (k : Front) → Standing h w k → (k.height ≤ 256) × (k.width ≤ 256)
 small h w k s = (omega (arith, s.tall, s.down), omega (arith, s.wide, s.across))

@@ -1,20 +1,19 @@
 -- A sheet's text, part by part. Assumes nothing.
-use mathlib.Core.Path.{◌≡◌, refl, sym, ap, ◌∙◌, subst}
+use mathlib.Core.Path.{◌≡◌, refl, sym, ap, ◌∙◌}
 use mathlib.Core.Bool.{Bool, true, false}
-use mathlib.Core.List.{List, [], ◌∷◌, ◌++◌}
+use mathlib.Core.List.{List, [], ◌∷◌}
 use mathlib.Core.Logic.{◌⊎◌, inl, inr}
 use Rattle.text.proofs.Read.{below}
-use Prim.Native.Nat.{ℕ, zero, suc, ◌+◌, ◌-◌, ◌<◌, ◌≤◌}
+use Prim.Native.Nat.{ℕ, suc, ◌<◌, ◌≤◌}
 use native.Mathlib.Omega.{arith}
 use borrow.Author.Tests.{eq-eqb, ne_eqb}
 use lib.Dec.{eqb}
 use lib.IntN.{ℤ}
 use lib.ListN.{length, drop, length-drop, drop_of_length-le, get_or}
 use Rattle.text.specs.Bytes.{bytes}
-use Rattle.text.specs.Text.{Parsed, bad, got, and_then, plain, signed, row, rows, times, skip, section, sections, whole, parse, any}
-use Rattle.text.specs.Lines.{three, four, five}
-use Rattle.text.proofs.Many.{SkipRead, RowRead, RowsRead, ThreeLine, lines_read}
-use Rattle.pyramid.specs.Sides.{is_sides, is_depth}
+use Rattle.text.specs.Text.{bad, got, row, rows, times, skip, sections, whole, parse}
+use Rattle.text.specs.Lines.{three, four, five, RowRead}
+use Rattle.text.proofs.Many.{SkipRead, RowsRead, ThreeLine, lines_read}
 use Rattle.sheet_text.specs.Forms.{sheet_form}
 use Rattle.text.specs.declared.lines.Three.{Three}
 use Rattle.sheet_text.specs.Sheet.{is_some, list_in, rows_of, height_in, width_in, levels_in}
@@ -93,19 +92,6 @@ laid s p t u v w f o m a b h₁ x h₃ h₄ h₅ h₆ k l y z =
       surveyed = z;
     }
 
--- of sides or of levels that are not good, nothing is found
+-- no test is both
 pub clash : false ≡ true → ⊥
 clash e = let z : ◌≡◌ {A = ℕ} 0 1 = cc in omega arith
-
-module _ (s : List ℕ) (at h w R : ℕ) (a b : Bool) where
-  pub no_sides : is_sides h w ≡ false → Surveyed s at h w R a b
-  no_sides e = record { rising = λ x y. absurd (clash (sym e ∙ x)); fitting = λ x y. absurd (clash (sym e ∙ x)) }
-
-  pub no_depth : is_depth R h w ≡ false → Surveyed s at h w R a b
-  no_depth e = record { rising = λ x y. absurd (clash (sym e ∙ y)); fitting = λ x y. absurd (clash (sym e ∙ y)) }
-
-  pub no_sides_tiled : is_sides h w ≡ false → Tiled s at h w R a b
-  no_sides_tiled e = record { ordered = λ x y. absurd (clash (sym e ∙ x)); numbered = λ x y o. absurd (clash (sym e ∙ x)) }
-
-  pub no_depth_tiled : is_depth R h w ≡ false → Tiled s at h w R a b
-  no_depth_tiled e = record { ordered = λ x y. absurd (clash (sym e ∙ y)); numbered = λ x y o. absurd (clash (sym e ∙ y)) }

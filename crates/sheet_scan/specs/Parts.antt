@@ -1,12 +1,10 @@
 -- Where the parts of a sheet's text stand. Assumes nothing.
-use Rattle.std.specs.Prelude.{◌≡◌, Bool, true, false, List, [], ℕ, get_or}
+use Rattle.std.specs.Prelude.{◌≡◌, Bool, true, false, List, [], ℕ, get_or, Option, Some, None}
 use Rattle.integers.specs.Lists.{every}
 use Rattle.coverings.specs.Entry.{is_number}
 use Rattle.text.specs.Text.{parse}
 use Rattle.text.specs.Lines.{four, five, lines_at}
 use Rattle.sheet_scan.specs.declared.check.Layout.{Layout}
-use Rattle.sheet_scan.specs.declared.check.Found.{Found}
-use Rattle.sheet_scan.specs.declared.check.Found.TheVariants.{At, Bad}
 use Rattle.sheet_text.specs.Forms.{sheet_form}
 use Rattle.pyramid.specs.Places.{plane_places, block_places}
 use Rattle.pyramid.specs.Sides.{is_sides, is_depth}
@@ -36,6 +34,6 @@ pub record LaidOut (t : List ℕ) (l : Layout) : Type 0 where
   pub surveyed : Surveyed t l.entries l.height l.width l.levels l.rising l.fitting
 
 -- The answer for any text.
-abbrev pub FoundIn : List ℕ → Found → Type 0
-FoundIn t Bad = is_some (parse sheet_form t) ≡ false
-FoundIn t (At l) = LaidOut t l
+abbrev pub FoundIn : List ℕ → Option Layout → Type 0
+FoundIn t None = is_some (parse sheet_form t) ≡ false
+FoundIn t (Some l) = LaidOut t l

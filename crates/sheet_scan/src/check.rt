@@ -6,8 +6,6 @@ ghost use Rattle.sheet_scan.specs.Parts.{Tiled, Surveyed, FoundIn};
 
 use crate::scan::Survey;
 use crate::tiles::Tiling;
-use text::lines::LineOfThree;
-use text::names::Skip;
 
 // What a sheet says of its height, width and levels, and where the lines of its blocks and of its entries begin.
 #[derive(Clone, Copy)]
@@ -17,6 +15,7 @@ pub struct Layout {
     pub levels: u32,
     pub blocks: usize,
     pub entries: usize,
+    // Kept: two flags for each kind of line, no Option of a flag: `Tiled` and `Surveyed` of specs/Parts.antt say each of its own.
     // Of the blocks' lines, where the height, the width and the levels are good: whether they are exactly the blocks in covering order; and, where they
     // are, whether their coverings have numbers.
     pub ordered: bool,
@@ -27,13 +26,6 @@ pub struct Layout {
     pub fitting: bool,
 }
 
-#[derive(Drop)]
-pub enum Found {
-    At(Layout),
-    // It breaks the line rules.
-    Bad,
-}
-
 // Passes the lines of the blocks, in one pass where the height, the width and the levels are good.
 fn survey_blocks(s: &[u8], at: usize, height: u32, width: u32, levels: u32) -> Tiling
     requires { at ≤ length s.now }
@@ -42,18 +34,9 @@ fn survey_blocks(s: &[u8], at: usize, height: u32, width: u32, levels: u32) -> T
 {
     let h = height as usize;
     let w = width as usize;
-    if !places::checks::are_sides(h, w) {
-        let past = reader::fours_end(s, at);
+    if !places::checks::are_sides(h, w) || !places::checks::is_depth(levels as usize, h, w) {
         return Tiling {
-            past,
-            ordered: false,
-            numbered: false,
-        };
-    }
-    if !places::checks::is_depth(levels as usize, h, w) {
-        let past = reader::fours_end(s, at);
-        return Tiling {
-            past,
+            past: reader::fours_end(s, at),
             ordered: false,
             numbered: false,
         };
@@ -69,18 +52,9 @@ fn survey_entries(s: &[u8], at: usize, height: u32, width: u32, levels: u32) -> 
 {
     let h = height as usize;
     let w = width as usize;
-    if !places::checks::are_sides(h, w) {
-        let past = reader::fives_end(s, at);
+    if !places::checks::are_sides(h, w) || !places::checks::is_depth(levels as usize, h, w) {
         return Survey {
-            past,
-            rising: false,
-            fitting: false,
-        };
-    }
-    if !places::checks::is_depth(levels as usize, h, w) {
-        let past = reader::fives_end(s, at);
-        return Survey {
-            past,
+            past: reader::fives_end(s, at),
             rising: false,
             fitting: false,
         };
@@ -88,30 +62,21 @@ fn survey_entries(s: &[u8], at: usize, height: u32, width: u32, levels: u32) -> 
     crate::scan::look_along(s, at, height, width, levels)
 }
 
-// The parts of a text that keeps the line rules of a tetrolet sheet. (It states the laws of sheets besides, so that they are part of the verdict.)
-pub fn find_parts(s: &[u8]) -> Found
+// The parts of a text that keeps the line rules of a tetrolet sheet, or nothing. (It states the laws of sheets besides, so that they are part of the verdict.)
+pub fn find_parts(s: &[u8]) -> Option<Layout>
     ensures found_in { FoundIn s.now result }
     ensures sheet_laws { SheetLaws }
 {
-    let Skip::To(p) = reader::names_at(s, 0, b"height width levels\n") else {
-        return Found::Bad;
-    };
-    let LineOfThree::Of(h) = reader::three_at(s, p) else {
-        return Found::Bad;
-    };
-    let q = h.next;
-    let Skip::To(t) = reader::names_at(s, q, b"level row col cover\n") else {
-        return Found::Bad;
-    };
+    let p = reader::names_at(s, 0, b"height width levels\n")?;
+    let h = reader::three_at(s, p)?;
+    let t = reader::names_at(s, h.next, b"level row col cover\n")?;
     let u = survey_blocks(s, t, h.first, h.second, h.third);
-    let Skip::To(v) = reader::names_at(s, u.past, b"level band row col value\n") else {
-        return Found::Bad;
-    };
+    let v = reader::names_at(s, u.past, b"level band row col value\n")?;
     let w = survey_entries(s, v, h.first, h.second, h.third);
     if w.past != s.len() {
-        return Found::Bad;
+        return None;
     }
-    Found::At(Layout {
+    Some(Layout {
         height: h.first,
         width: h.second,
         levels: h.third,

@@ -112,6 +112,7 @@ fn seek_behind(start: Front, f: Five, height: u32, width: u32) -> Front
     ensures { Sought height width f start result }
 {
     let mut k = next_level(start, height, width);
+    // Kept: no index is counted: the front knows its own end, and is the answer there.
     while 0 < k.left {
         if is_ahead(f, k) {
             return k;

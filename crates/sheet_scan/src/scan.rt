@@ -7,8 +7,6 @@ ghost use Rattle.sheet_text.specs.Rows.{values_of};
 ghost use Rattle.sheet_text.specs.Sheet.{is_some};
 ghost use Rattle.sheet_scan.specs.Scan.{stored_along, fit_along};
 
-use text::lines::LineOfFive;
-
 // Whether two tests hold.
 pub fn both(a: bool, b: bool) -> bool
     ensures { result ≡ (a && b) }
@@ -39,14 +37,7 @@ pub fn look_along(s: &[u8], at: usize, height: u32, width: u32, levels: u32) -> 
     let mut p = at;
     let mut rising = true;
     let mut fitting = true;
-    loop {
-        let LineOfFive::Of(f) = text::lines::read_five(s, p) else {
-            return Survey {
-                past: p,
-                rising,
-                fitting,
-            };
-        };
+    while let Some(f) = text::lines::read_five(s, p) {
         k = crate::front::seek(k, f, height, width);
         if k.left == 0 {
             let past = text::lines::pass_fives(s, f.next);
@@ -65,6 +56,11 @@ pub fn look_along(s: &[u8], at: usize, height: u32, width: u32, levels: u32) -> 
         p = f.next;
         k = crate::front::past_line(k, f);
     }
+    Survey {
+        past: p,
+        rising,
+        fitting,
+    }
 }
 
 // Stores the values of these lines in a plane, each at its own place, and 0 at each place without a line.
@@ -76,18 +72,14 @@ pub fn store_values(plane: &mut [i64], s: &[u8], at: usize, height: u32, width: 
     slices::clear(plane);
     let mut k = crate::front::first(height, width, levels);
     let mut p = at;
-    loop {
-        let LineOfFive::Of(f) = text::lines::read_five(s, p) else {
-            return;
-        };
+    while let Some(f) = text::lines::read_five(s, p) {
         k = crate::front::seek(k, f, height, width);
         if k.left == 0 {
             return;
         }
         let here = crate::front::walk_to(k, f);
         let i = places::checks::index_of(here, height, width);
-        let v = f.value;
-        plane[i] = v;
+        plane[i] = f.value;
         p = f.next;
         k = crate::front::past_line(k, f);
     }

@@ -10,29 +10,20 @@ ghost use Rattle.sheet_text.specs.Sheet.{is_some};
 ghost use Rattle.sheet_scan.specs.Scan.{covers_along};
 
 use places::walk::Walk;
-use text::lines::{Four, LineOfFour};
+use text::lines::Four;
 
 // Whether a line is of the present block.
 fn is_block(f: Four, k: Walk) -> bool
     ensures { result ≡ (eqb f.first k.level && (eqb f.second k.row && eqb f.third k.col)) }
 {
-    if f.first != k.level {
-        return false;
-    }
-    if f.second != k.row {
-        return false;
-    }
-    f.third == k.col
+    f.first == k.level && f.second == k.row && f.third == k.col
 }
 
 // Whether a covering has a number, 1 to 117.
 fn is_number(c: u32) -> bool
     ensures { result ≡ is_number c }
 {
-    if c < 1 {
-        return false;
-    }
-    c <= 117
+    1 <= c && c <= 117
 }
 
 // What one pass over the lines of the blocks finds.
@@ -55,8 +46,9 @@ pub fn tile_along(s: &[u8], at: usize, height: u32, width: u32, levels: u32) -> 
     let mut p = at;
     let mut ordered = true;
     let mut numbered = true;
+    // Kept: no index is counted: the walk knows its own end.
     while 0 < k.left {
-        let LineOfFour::Of(f) = text::lines::read_four(s, p) else {
+        let Some(f) = text::lines::read_four(s, p) else {
             return Tiling {
                 past: p,
                 ordered: false,
@@ -70,7 +62,7 @@ pub fn tile_along(s: &[u8], at: usize, height: u32, width: u32, levels: u32) -> 
         p = f.next;
         k = places::walk::step(k, height, width);
     }
-    let LineOfFour::Of(g) = text::lines::read_four(s, p) else {
+    let Some(g) = text::lines::read_four(s, p) else {
         return Tiling {
             past: p,
             ordered,
@@ -92,13 +84,11 @@ pub fn store_covers(coverings: &mut [u8], s: &[u8], at: usize)
     ensures { coverings.new ≡ covers_along (lines_at four s.now at) }
 {
     let mut p = at;
-    let mut i: usize = 0;
-    while i < coverings.len() {
-        let LineOfFour::Of(f) = text::lines::read_four(s, p) else {
+    for covering in coverings.iter_mut() {
+        let Some(f) = text::lines::read_four(s, p) else {
             return;
         };
-        coverings[i] = f.fourth as u8;
+        *covering = f.fourth as u8;
         p = f.next;
-        i += 1;
     }
 }

@@ -95,11 +95,8 @@ pub run_before : (base w j : ℕ) → 0 < j → base + j * w ≡ base + (j - 1) 
 run_before base w zero l = absurd (omega arith)
 run_before base w (suc i) l = let e : suc i - 1 ≡ i = omega arith in rw e (omega arith)
 
-pub last_run : (base w : ℕ) → base + 512 * w ≡ base + 511 * w + w
-last_run base w = omega arith
-
-pub first_run : (base w j : ℕ) → j ≡ 0 → base + j * w + w ≡ base + w
-first_run base w j e = rw e (omega arith)
+pub one_run : (base w j : ℕ) → j ≡ 1 → base + j * w ≡ base + w
+one_run base w j e = rw e (omega arith)
 
 pub run_inside : (base w j : ℕ) → j ≤ 511 → base + j * w + w ≤ base + 512 * w
 run_inside base w j l = let z = mul-le-mul_right w l in omega arith

@@ -11,17 +11,7 @@ pub fn doubled(r: u32) -> u64
     requires { r ≤ 8 }
     ensures { result ≡ 2 ^ r }
 {
-    match r {
-        0 => 1,
-        1 => 2,
-        2 => 4,
-        3 => 8,
-        4 => 16,
-        5 => 32,
-        6 => 64,
-        7 => 128,
-        _ => 256,
-    }
+    1 << r
 }
 
 // How many tetrolet entries a plane has. Two wrong answers that the contract rules out: the entries of one level; those of the low-pass too.
@@ -53,15 +43,14 @@ fn count_rank(counts: &mut [u32; 512], rank: u64, base: u64, shift: u64)
     if rank < base {
         return;
     }
-    let b = (rank - base) >> shift;
-    if 511 < b {
-        return;
+    let run = ((rank - base) >> shift) as usize;
+    if run < 512 {
+        counts[run] += 1;
     }
-    let i = b as usize;
-    counts[i] = counts[i] + 1;
 }
 
 // How many tetrolet entries rank in each of 512 runs of 2^shift ranks from `base` on.
+// Kept: a `for` would count a second time what the place of the walk says is left, here and in `sift`.
 fn count_runs(
     height: u32,
     width: u32,
@@ -112,9 +101,8 @@ fn narrowed(
     let base = at.base;
     let mut counts = [0u32; 512];
     count_runs(height, width, levels, plane, base, shift, &mut counts);
-    let mut j: usize = 511;
     let mut total = at.over;
-    while 0 < j {
+    for j in (1..512usize).rev() {
         let more = total + counts[j] as u64;
         if quota < more {
             return Found {
@@ -123,12 +111,8 @@ fn narrowed(
             };
         }
         total = more;
-        j -= 1;
     }
-    Found {
-        base: base,
-        over: total,
-    }
+    Found { base, over: total }
 }
 
 // The rank at which keep begins to drop entries: the least with at most `quota` ranks above it, found by its three digits to the base 512;

@@ -21,7 +21,7 @@ pub fn sift(height: u32, width: u32, levels: u32, plane: &mut [i64], limit: u64,
     ensures { Sifted levels height width limit ties plane.old plane.new result }
 {
     let mut tally = Tally {
-        limit: limit,
+        limit,
         left: ties,
         count: 0,
         stays: false,

@@ -19,10 +19,10 @@ impl Tally {
         ensures { result ≡ record { limit = self.limit; left = left; count = self.count + 1; stays = true } }
     {
         Tally {
-            limit: self.limit,
-            left: left,
+            left,
             count: self.count + 1,
             stays: true,
+            ..self
         }
     }
 
@@ -31,10 +31,9 @@ impl Tally {
         ensures { result ≡ record { limit = self.limit; left = left; count = self.count; stays = false } }
     {
         Tally {
-            limit: self.limit,
-            left: left,
-            count: self.count,
+            left,
             stays: false,
+            ..self
         }
     }
 

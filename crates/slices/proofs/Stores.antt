@@ -1,14 +1,18 @@
 -- What runs of stores leave, entry by entry. Assumes nothing.
 use mathlib.Core.Path.{◌≡◌, refl, sym, ap, ◌∙◌, subst, subst⁻¹}
-use mathlib.Core.List.{List}
+use mathlib.Core.List.{List, ◌++◌}
 use mathlib.Core.Logic.{⊎_elim}
 use Prim.Native.Nat.{ℕ, zero, suc, ◌+◌, ◌*◌, ◌-◌, ◌<◌, ◌≤◌}
 use native.Mathlib.Nat.{not-suc-le-zero, eq-or-lt_of_le, le_of_suc-le-suc, mul-le-mul_right, suc-mul}
 use native.Mathlib.Omega.{arith}
 use lib.Arith.{digits_lt}
 use lib.IntN.{ℤ, pos}
-use lib.ListN.{length, get_or, drop, set, length-set, length-drop}
+use lib.ListN.{length, get_or, take, drop, set, length-set, length-drop}
 use lib.Seq.{get_or-set_same, get_or-set_other, paste, paste-zero, paste-suc, get_or-drop}
+use Rattle.std.specs.Prelude.{slice_range}
+use Rattle.std.proofs.lemmas.List.{length-take-le, take_all}
+use Rattle.std.proofs.lemmas.Slice.{put_mid-paste}
+use borrow.Rule.Slice.PartMut.{put_mid}
 use Rattle.integers.proofs.Index.{same_place}
 use Rattle.slices.specs.Stores.{scatter, pasted, columns, rectangles, Room}
 
@@ -74,6 +78,17 @@ module _ {A : Type 0} (z : A) (from : List A) (first at : ℕ) (to : List A) whe
   pasted_paste (suc k) f g =
       (λ i. set (pasted_paste k (omega arith) (omega arith) i) (at + k) (sym (get_or-drop first from k z) i))
       ∙ paste-suc to at (drop first from) k z (omega arith) (omega (arith, length-drop first from))
+
+-- what a copy of a part of one slice into a part of another leaves
+pub pasted_part : {A : Type 0} (z : A) (from : List A) (first at n : ℕ) (to part : List A) → first + n ≤ length from → at + n ≤ length to → part ≡ slice_range from first (first + n)
+    → put_mid at (at + n - at) to part ≡ pasted z from first at n to
+pasted_part {A = A} z from first at n to part f g e =
+    let behind = drop first from in
+    let h : first + n - first ≡ n = omega arith in
+    let lengths : length (take n behind) ≡ n = length-take-le n behind (omega (arith, length-drop first from)) in
+    put_mid-paste at (at + n - at) to part (take n behind) n (e ∙ ap (λ (k : ℕ). take k behind) h) (omega arith) (sym lengths)
+    ∙ ap (λ (l : List A). take at to ++ l ++ drop (at + n) to) (take_all n (take n behind) (omega arith))
+    ∙ sym (pasted_paste z from first at to n g f)
 
 -- the first m rows of c columns of height h; an entry in row y, column x is x * h + y places further
 module _ (from : List ℤ) (h m : ℕ) (small : m ≤ h) (first at : ℕ) (to : List ℤ) where

@@ -10,11 +10,7 @@ ghost use Rattle.slices.specs.Stores.{pasted, columns, rectangles, Room};
 pub fn clear(s: &mut [i64])
     ensures { s.new ≡ replicate (length s.old) (pos 0) }
 {
-    let mut i = 0;
-    while i < s.len() {
-        s[i] = 0;
-        i += 1;
-    }
+    s.fill(0);
 }
 
 // The entries of one slice in another as long. Two wrong answers that the contract rules out: the first entry left as it was; the entries turned round.
@@ -22,11 +18,7 @@ pub fn copy(from: &[i64], to: &mut [i64])
     requires { length to.old ≡ length from.now }
     ensures { to.new ≡ from.now }
 {
-    let mut i = 0;
-    while i < to.len() {
-        to[i] = from[i];
-        i += 1;
-    }
+    to.copy_from_slice(from);
 }
 
 // Samples as signed entries. Two wrong answers that the contract rules out: a sample over 32,767 below zero; the last sample left out.
@@ -34,36 +26,18 @@ pub fn widen(from: &[u16], to: &mut [i64])
     requires { length to.old ≡ length from.now }
     ensures { to.new ≡ map pos from.now }
 {
-    let mut i = 0;
-    while i < to.len() {
-        to[i] = from[i] as i64;
-        i += 1;
+    for (i, sample) in from.iter().enumerate() {
+        to[i] = i64::from(*sample);
     }
 }
 
-// n entries, from one place in a slice to another place in another.
-fn move_run(from: &[i64], first: usize, to: &mut [i64], at: usize, n: usize)
-    requires { (first + n ≤ length from.now) × (at + n ≤ length to.old) }
-    ensures { to.new ≡ pasted (pos 0) from.now first at n to.old }
-{
-    let mut r = 0;
-    while r < n {
-        to[at + r] = from[first + r];
-        r += 1;
-    }
-}
-
-// The same for numbers, as those of coverings.
+// n numbers, as those of coverings, from one place in a slice to another place in another.
 // Two wrong answers that the contract rules out: the numbers from the front of the slice; and one number too many.
 pub fn move_numbers(from: &[u8], first: usize, to: &mut [u8], at: usize, n: usize)
     requires { (first + n ≤ length from.now) × (at + n ≤ length to.old) }
     ensures { to.new ≡ pasted 0 from.now first at n to.old }
 {
-    let mut r = 0;
-    while r < n {
-        to[at + r] = from[first + r];
-        r += 1;
-    }
+    to[at..at + n].copy_from_slice(&from[first..first + n]);
 }
 
 // The first `tall` rows of `wide` columns, from one place in a slice to another place in another of the same height. Two wrong answers that the contract
@@ -80,11 +54,10 @@ pub fn move_columns(
     requires { (tall ≤ height) × Room height tall wide first (length from.now) × Room height tall wide at (length to.old) }
     ensures { to.new ≡ columns height tall wide from.now first at to.old }
 {
-    let mut c = 0;
-    while c < wide {
-        let k = c * height;
-        move_run(from, first + k, to, at + k, tall);
-        c += 1;
+    for c in 0..wide {
+        let source = first + c * height;
+        let target = at + c * height;
+        to[target..target + tall].copy_from_slice(&from[source..source + tall]);
     }
 }
 

@@ -1,3 +1,4 @@
+pub mod Around
 pub mod Cells
 pub mod Gates
 pub mod Runs

@@ -1,5 +1,5 @@
 -- A column of the plane that is restored, in two runs: its rows in band 0, and the others. Assumes nothing.
-use mathlib.Core.Path.{◌≡◌, sym, ap, ◌∙◌, subst}
+use mathlib.Core.Path.{◌≡◌, ap, ◌∙◌, subst}
 use mathlib.Core.Bool.{Bool, true, false, not, cond, ◌&&◌, ◌||◌}
 use mathlib.Core.List.{List}
 use Prim.Native.Nat.{ℕ, ◌+◌, ◌*◌, ◌-◌, ◌<◌, ◌≤◌}
@@ -11,12 +11,16 @@ use lib.IntN.{ℤ, pos, ◌-ℤ◌, ◌*ℤ◌}
 use lib.ListN.{get_or}
 use Rattle.integers.specs.Zero.{is_zero}
 use Rattle.integers.proofs.Tests.{true_at, false_at, and_false}
-use Rattle.pyramid.specs.Plane.{Image, halved}
+use Rattle.pyramid.specs.Plane.{halved}
 use Rattle.pyramid.specs.Slices.{image_of}
 use Rattle.pyramid.proofs.Ranges.{halved_le}
 use Rattle.pyramid.proofs.Slices.{image_slice}
 use Rattle.variation.specs.Smooth.{masked}
 use Rattle.smoothing.specs.Mixed.{mixed_entry, Mixes, mixed_of}
+
+-- the rows of a column in band 0, by the halved sides
+pub rows_is : (R h w col : ℕ) {n tall wide : ℕ} → n ≡ cond (ltb col wide) tall 0 → tall ≡ halved R h → wide ≡ halved R w → n ≡ cond (ltb col (halved R w)) (halved R h) 0
+rows_is R h w col e f g = e ∙ λ i. cond (ltb col (g i)) (f i) 0
 
 module _ (R h w p : ℕ) (P D : List ℤ) (col : ℕ) (inside : col < w) where
   -- an entry, by whether it is in band 0

@@ -3,12 +3,12 @@ use mathlib.Core.Path.{◌≡◌, sym, ap, ◌∙◌, subst⁻¹}
 use mathlib.Core.Bool.{cond}
 use mathlib.Core.List.{List}
 use Prim.Native.Nat.{ℕ, ◌*◌, ◌/◌, ◌%◌, ◌^◌, ◌<◌, ◌≤◌}
-use native.Mathlib.Nat.{le_trans, div-add-mod'}
+use native.Mathlib.Nat.{div-add-mod'}
 use native.Mathlib.Omega.{arith}
 use lib.IntN.{ℤ, pos, nat_abs, ◌-ℤ◌, ◌*ℤ◌}
-use lib.ListN.{length, get_or}
+use lib.ListN.{get_or}
 use Rattle.integers.proofs.Index.{index_place}
-use Rattle.pyramid.specs.Plane.{Image, Fits, Numbers, all_blocks, analyse, numerators, listed}
+use Rattle.pyramid.specs.Plane.{Image, analyse, numerators, listed}
 use Rattle.pyramid.specs.Slices.{image_of, slice_of, numerators_of}
 use Rattle.pyramid.proofs.Slices.{Agree, image_slice, slice_of_law, slice_length}
 use Rattle.pyramid.proofs.Finish.{analyse_cong}
@@ -80,6 +80,16 @@ module _ {R h w : ℕ} {cs : List ℕ} {plane : List ℤ} (r : Restorable R h w 
     limit = omega (arith, four_most R r.most);
     size = limited_cong r.fits (λ y x k l. sym (third_is y x k l)) (mixture_limited R h w r.fits (listed cs) p P r.size s);
   }
+
+  -- what each call leaves, by what those before it left
+  pub sloped_is : {copied merged out : List ℤ} → copied ≡ plane → merged ≡ numerators_of R h w cs copied → out ≡ gradient_of h w merged → out ≡ first
+  sloped_is e f g = g ∙ ap (gradient_of h w) (f ∙ ap (numerators_of R h w cs) e)
+
+  pub decomposed_is : {out decomposed : List ℤ} → out ≡ first → decomposed ≡ slice_of h w (analyse R h w (listed cs) (image_of h out)) → decomposed ≡ second
+  decomposed_is e f = f ∙ ap (λ (l : List ℤ). slice_of h w (analyse R h w (listed cs) (image_of h l))) e
+
+  pub mixed_is : {decomposed out : List ℤ} → decomposed ≡ second → out ≡ mixed_of R h w p plane decomposed → out ≡ third
+  mixed_is e f = f ∙ ap (mixed_of R h w p plane) e
 
   -- and restored
   pub last_is : numerators_of R h w cs third ≡ smoothed_of R h w cs p plane

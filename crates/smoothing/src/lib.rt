@@ -15,7 +15,7 @@ ghost use Rattle.smoothing.specs.Mixed.{gradient_of, mixed_entry, Mixes, mixed_o
 ghost use Rattle.smoothing.specs.Entry.{smooth_refusal, Smoothed};
 ghost use Rattle.smoothing.specs.Claims.{SmoothingLaws};
 
-use refusals::{Answer, Refusal};
+use refusals::Refusal;
 
 // How many times the result counts a numerator. Its contract has the laws of the entry, which are so a part of what the check proves.
 pub fn weight() -> u64
@@ -25,6 +25,7 @@ pub fn weight() -> u64
 }
 
 // The sign of a difference, which is not formed. Two wrong answers that the contract rules out: 1 for equal numbers; and the sign the other way round.
+// Kept: two comparisons; a match on `cmp` has three arms and is no plainer.
 fn sign(here: i64, there: i64) -> i64
     ensures { result ≡ sign_of (here -ℤ there) }
 {
@@ -37,24 +38,13 @@ fn sign(here: i64, there: i64) -> i64
     0
 }
 
-// The sign of entry k less the one `back` places before it, where that is inside the picture.
-fn against_before(values: &[i64], inside: bool, k: usize, back: usize) -> i64
-    requires { (k < length values.now) × (inside ≡ true → back ≤ k) }
-    ensures { result ≡ against inside (get_or values.now k (pos 0)) (get_or values.now (k - back) (pos 0)) }
+// The sign of an entry less another, where that is inside the picture.
+fn against(values: &[i64], inside: bool, here: usize, there: usize) -> i64
+    requires { (here < length values.now) × (inside ≡ true → there < length values.now) }
+    ensures { result ≡ against inside (get_or values.now here (pos 0)) (get_or values.now there (pos 0)) }
 {
     if inside {
-        return sign(values[k], values[k - back]);
-    }
-    0
-}
-
-// The sign of entry k less the one `on` places behind it, where that is inside the picture.
-fn against_behind(values: &[i64], inside: bool, k: usize, on: usize) -> i64
-    requires { (k < length values.now) × (inside ≡ true → k + on < length values.now) }
-    ensures { result ≡ against inside (get_or values.now k (pos 0)) (get_or values.now (k + on) (pos 0)) }
-{
-    if inside {
-        return sign(values[k], values[k + on]);
+        return sign(values[here], values[there]);
     }
     0
 }
@@ -65,37 +55,33 @@ fn slope(values: &[i64], height: usize, width: usize, row: usize, col: usize) ->
     ensures { result ≡ gradient height width (image_of height values.now) row col }
 {
     let k = col * height + row;
-    let above = against_before(values, 0 < row, k, 1);
-    let below = against_behind(values, row + 1 < height, k, 1);
-    let left = against_before(values, 0 < col, k, height);
-    let right = against_behind(values, col + 1 < width, k, height);
+    let above = against(values, 0 < row, k, k.saturating_sub(1));
+    let below = against(values, row + 1 < height, k, k + 1);
+    let left = against(values, 0 < col, k, k.saturating_sub(height));
+    let right = against(values, col + 1 < width, k, k + height);
     2 * (above + below + left + right)
 }
 
-// The gradient in a column, of which the columns before are there.
+// The gradient in a column, of which the columns before are there. It stays a function of its own in the machine code.
+#[inline(never)]
 fn slope_column(values: &[i64], height: usize, width: usize, col: usize, out: &mut [i64])
     requires { (col < width) × (height ≤ 512) × (width ≤ 512) × (length values.now ≡ width * height) × (length out.old ≡ width * height) }
     ensures { (old : List ℤ) → length old ≡ width * height → out.old ≡ half (gradient_of height width values.now) old (col * height) → out.new ≡ half (gradient_of height width values.now) old (col * height + height) }
 {
     let first = col * height;
-    let mut row: usize = 0;
-    while row < height {
+    for row in 0..height {
         out[first + row] = slope(values, height, width, row, col);
-        row += 1;
     }
 }
 
-// The gradient of all cells. The first column is called for apart, so that `slope_column` has two callers and stays a function of its own in the machine code.
+// The gradient of all cells.
 // Two wrong answers that the contract rules out: the last column left as it was; and the gradient along rows.
 fn slopes(values: &[i64], height: usize, width: usize, out: &mut [i64])
-    requires { (height ≤ 512) × (1 ≤ width) × (width ≤ 512) × (length values.now ≡ width * height) × (length out.old ≡ width * height) }
+    requires { (height ≤ 512) × (width ≤ 512) × (length values.now ≡ width * height) × (length out.old ≡ width * height) }
     ensures { out.new ≡ gradient_of height width values.now }
 {
-    slope_column(values, height, width, 0, out);
-    let mut col: usize = 1;
-    while col < width {
+    for col in 0..width {
         slope_column(values, height, width, col, out);
-        col += 1;
     }
 }
 
@@ -132,11 +118,9 @@ fn mix_run(
     requires by_index { ((k : ℕ) → k < length out.old → nat_abs (get_or plane.now k (pos 0)) ≤ 2 ^ 40) × ((k : ℕ) → k < length out.old → nat_abs (get_or decomposed.now k (pos 0)) ≤ 2 ^ 40) }
     ensures { (new old : List ℤ) → Mixes step low plane.now decomposed.now first count new → length new ≡ length old → length old ≡ length out.old → out.old ≡ half new old first → out.new ≡ half new old (first + count) }
 {
-    let mut i: usize = 0;
-    while i < count {
+    for i in 0..count {
         let k = first + i;
         out[k] = mixed_entry(plane[k], decomposed[k], low, step);
-        i += 1;
     }
 }
 
@@ -200,12 +184,10 @@ fn mix(
 {
     let tall = height >> levels;
     let wide = width >> levels;
-    let mut col: usize = 0;
-    while col < width {
+    for col in 0..width {
         mix_column(
             plane, decomposed, height, width, levels, tall, wide, step, col, out,
         );
-        col += 1;
     }
 }
 
@@ -226,13 +208,12 @@ fn smooth_all(
     ensures res_after { res.new ≡ smoothed_of levels height width coverings.now step plane.now }
     ensures scratch_after { scratch.new ≡ replicate (width * height) (pos 0) }
 {
-    let cells = tables::cells();
     slices::copy(plane, res);
-    synthesis::synthesise(&cells, height, width, levels, coverings, res, scratch);
+    synthesis::synthesise(height, width, levels, coverings, res, scratch);
     slopes(res, height, width, scratch);
-    given::decompose_by(&cells, height, width, levels, coverings, scratch, res);
+    given::decompose_by(height, width, levels, coverings, scratch, res);
     mix(plane, scratch, height, width, levels, step, res);
-    synthesis::synthesise(&cells, height, width, levels, coverings, res, scratch);
+    synthesis::synthesise(height, width, levels, coverings, res, scratch);
 }
 
 // The checks of smooth. Document 02, wish 11: "Checks are 1, 2, 3, 5, 6; 19 when p is over 255, after 6."
@@ -245,29 +226,26 @@ fn smooth_checks(
     step: u64,
     res: &[i64],
     scratch: &[i64],
-) -> Answer
+) -> Result<(), Refusal>
     ensures { answer_of result ≡ smooth_refusal (strip_of height width levels plane.now coverings.now) step res.now scratch.now }
 {
-    let sized = places::checks::size_checks(height, width, levels);
-    if let Answer::Refused(r) = sized {
-        return Answer::Refused(r);
-    }
+    places::checks::size_checks(height, width, levels)?;
     let area = width * height;
     let framed = coder::is_framed(height, width, levels, plane, coverings)
         & ((res.len() == area) & (scratch.len() == area));
     if !framed {
-        return Answer::Refused(Refusal::Frame);
+        return Err(Refusal::Frame);
     }
     if !places::checks::all_numbers(coverings) {
-        return Answer::Refused(Refusal::Covering);
+        return Err(Refusal::Covering);
     }
     if !ranges::in_range(plane, height as u32, width as u32, levels as u32) {
-        return Answer::Refused(Refusal::Coefficient);
+        return Err(Refusal::Coefficient);
     }
     if variation::largest_step() < step {
-        return Answer::Refused(Refusal::Step);
+        return Err(Refusal::Step);
     }
-    Answer::Done
+    Ok(())
 }
 
 // One smoothing step of a kept plane: 16 times its numerators, less the step times the total variation's gradient, where that moves neither band 0 nor a kept
@@ -282,13 +260,10 @@ pub fn smooth(
     step: u64,
     res: &mut [i64],
     scratch: &mut [i64],
-) -> Answer
+) -> Result<(), Refusal>
     ensures { Smoothed (strip_of height width levels plane.now coverings.now) step res.old res.new scratch.old scratch.new (answer_of result) }
 {
-    let found = smooth_checks(height, width, levels, plane, coverings, step, res, scratch);
-    if let Answer::Refused(r) = found {
-        return Answer::Refused(r);
-    }
+    smooth_checks(height, width, levels, plane, coverings, step, res, scratch)?;
     smooth_all(height, width, levels, plane, coverings, step, res, scratch);
-    Answer::Done
+    Ok(())
 }

@@ -3,7 +3,6 @@
 
 ghost use Rattle.std.specs.Prelude.{◌≡◌, map, ℕ, ◌+◌, ◌*◌, ◌/◌, ◌^◌, ◌<◌, ◌≤◌, pos, nat_abs, length, get_or, replicate};
 ghost use Rattle.slices.specs.Stores.{rectangles};
-ghost use Rattle.tables.specs.Tables.{cell_table};
 ghost use Rattle.kernel.specs.Kernel.{Within};
 ghost use Rattle.pyramid.specs.Plane.{after, listed};
 ghost use Rattle.pyramid.specs.Slices.{numerators_of, samples_of, nearest, held, sample_of};
@@ -26,11 +25,9 @@ fn results_of(image: &[i64], height: usize, begin: [usize; 4], weight: u64) -> [
     ensures { result ≡ weighted weight (band_place height begin) image.now }
 {
     let mut v = [0i64; 16];
-    let mut k: usize = 0;
-    while k < 16 {
+    for k in 0..16 {
         let place = begin[k / 4] + k % 4 / 2 * height + k % 4 % 2;
         v[k] = count(k, image[place], weight);
-        k += 1;
     }
     v
 }
@@ -38,7 +35,6 @@ fn results_of(image: &[i64], height: usize, begin: [usize; 4], weight: u64) -> [
 // The values of the block in block row i, block column j, stored in its cells.
 // Two wrong answers that the contract rules out: the covering of the block beside it; and the block turned.
 fn merge_block(
-    cells: &[u8; 1872],
     image: &[i64],
     height: usize,
     tall: usize,
@@ -50,7 +46,6 @@ fn merge_block(
     j: usize,
     out: &mut [i64],
 )
-    requires cells_value { cells.now ≡ cell_table }
     requires level { Level height tall wide weight first coverings.now image.now }
     requires height_in_bounds { (wide * height ≤ length out.old) × (i < tall / 4) × (j < wide / 4) }
     ensures { out.new ≡ put_block height (merged_block height tall wide weight (after first (listed coverings.now)) image.now) i j out.old }
@@ -62,7 +57,6 @@ fn merge_block(
         out,
         height,
         j * 4 * height + i * 4,
-        cells,
         coverings[first + (j * (tall / 4) + i)],
         values,
     );
@@ -70,7 +64,6 @@ fn merge_block(
 
 // The blocks of block column j.
 fn merge_column(
-    cells: &[u8; 1872],
     image: &[i64],
     height: usize,
     tall: usize,
@@ -81,24 +74,20 @@ fn merge_column(
     j: usize,
     out: &mut [i64],
 )
-    requires cells_value { cells.now ≡ cell_table }
     requires level { Level height tall wide weight first coverings.now image.now }
     requires height_in_bounds { (wide * height ≤ length out.old) × (j < wide / 4) }
     ensures { out.new ≡ put_column height (merged_block height tall wide weight (after first (listed coverings.now)) image.now) j (tall / 4) out.old }
 {
-    let mut i: usize = 0;
-    while i < tall / 4 {
+    for i in 0..tall / 4 {
         merge_block(
-            cells, image, height, tall, wide, weight, first, coverings, i, j, out,
+            image, height, tall, wide, weight, first, coverings, i, j, out,
         );
-        i += 1;
     }
 }
 
 // The blocks of a level, from the bands in `image` to the rectangle of `tall` rows and `wide` columns in `out`.
 // Two wrong answers that the contract rules out: the last block column left out; and the blocks' coverings taken along rows.
 fn merge_level(
-    cells: &[u8; 1872],
     image: &[i64],
     height: usize,
     tall: usize,
@@ -108,24 +97,18 @@ fn merge_level(
     coverings: &[u8],
     out: &mut [i64],
 )
-    requires cells_value { cells.now ≡ cell_table }
     requires level { Level height tall wide weight first coverings.now image.now }
     requires height_in_bounds { wide * height ≤ length out.old }
     ensures { out.new ≡ put_columns height (merged_block height tall wide weight (after first (listed coverings.now)) image.now) (tall / 4) (wide / 4) out.old }
 {
-    let mut j: usize = 0;
-    while j < wide / 4 {
-        merge_column(
-            cells, image, height, tall, wide, weight, first, coverings, j, out,
-        );
-        j += 1;
+    for j in 0..wide / 4 {
+        merge_column(image, height, tall, wide, weight, first, coverings, j, out);
     }
 }
 
 // One level up: its bands, merged to the scratch, and the rectangle of `tall` rows and `wide` columns copied back.
 // Two wrong answers that the contract rules out: the rectangle left in the scratch; and the entries outside the rectangle changed.
 fn rise(
-    cells: &[u8; 1872],
     height: usize,
     tall: usize,
     wide: usize,
@@ -135,14 +118,13 @@ fn rise(
     numerators: &mut [i64],
     scratch: &mut [i64],
 )
-    requires cells_value { cells.now ≡ cell_table }
     requires level { Level height tall wide weight first coverings.now numerators.old }
     requires scratch_len { length scratch.old ≡ length numerators.old }
     ensures scratch_after { scratch.new ≡ put_columns height (merged_block height tall wide weight (after first (listed coverings.now)) numerators.old) (tall / 4) (wide / 4) scratch.old }
     ensures numerators_after { numerators.new ≡ rectangles height tall wide (put_columns height (merged_block height tall wide weight (after first (listed coverings.now)) numerators.old) (tall / 4) (wide / 4) scratch.old) numerators.old }
 {
     merge_level(
-        cells, numerators, height, tall, wide, weight, first, coverings, scratch,
+        numerators, height, tall, wide, weight, first, coverings, scratch,
     );
     slices::copy_rectangle(scratch, numerators, height, tall, wide);
 }
@@ -151,7 +133,6 @@ fn rise(
 // `rise` has two callers and stays a function of its own in the machine code. The scratch is left empty.
 // Two wrong answers that the contract rules out: each level's W counted once; and the first level merged first.
 pub fn synthesise(
-    cells: &[u8; 1872],
     height: usize,
     width: usize,
     levels: usize,
@@ -159,43 +140,35 @@ pub fn synthesise(
     numerators: &mut [i64],
     scratch: &mut [i64],
 )
-    requires cells_value { cells.now ≡ cell_table }
     requires mergeable { Mergeable levels height width (2 ^ 33) coverings.now numerators.old }
     requires scratch_len { length scratch.old ≡ width * height }
     ensures numerators_after { numerators.new ≡ numerators_of levels height width coverings.now numerators.old }
     ensures scratch_after { scratch.new ≡ replicate (width * height) (pos 0) }
 {
-    let mut left = levels;
     let mut first = coverings.len();
     let mut weight: u64 = 1;
-    while left > 1 {
-        left -= 1;
+    for left in (1..levels).rev() {
         let tall = height >> left;
         let wide = width >> left;
         first -= wide / 4 * (tall / 4);
         rise(
-            cells, height, tall, wide, weight, first, coverings, numerators, scratch,
+            height, tall, wide, weight, first, coverings, numerators, scratch,
         );
         weight *= 4;
     }
     rise(
-        cells, height, height, width, weight, 0, coverings, numerators, scratch,
+        height, height, width, weight, 0, coverings, numerators, scratch,
     );
     slices::clear(scratch);
 }
 
 // 4 to the power `levels`. Two wrong answers that the contract rules out: 2 to that power; and 4 to one power less.
+// Kept: `places` has it of a u32; each is one call of the library's `pow`.
 pub fn power(levels: usize) -> u64
     requires { levels ≤ 8 }
     ensures { result ≡ 4 ^ levels }
 {
-    let mut p: u64 = 1;
-    let mut i: usize = 0;
-    while i < levels {
-        p *= 4;
-        i += 1;
-    }
-    p
+    4u64.pow(levels as u32)
 }
 
 // A numerator over 4 to the power `levels`, rounded to nearest, halves upward: the shift rounds down, below zero too.
@@ -211,13 +184,7 @@ fn nearest_to(y: i64, levels: usize, unit: u64) -> i64
 fn hold(n: i64) -> u16
     ensures { result ≡ held n }
 {
-    if n < 0 {
-        return 0;
-    }
-    if n > 4095 {
-        return 4095;
-    }
-    n as u16
+    n.clamp(0, 4095) as u16
 }
 
 // The sample of a numerator. `unit` is 4 to the power `levels`.
@@ -236,10 +203,8 @@ fn round(numerators: &[i64], levels: usize, samples: &mut [u16])
     ensures { samples.new ≡ map (sample_of levels) numerators.now }
 {
     let unit = power(levels);
-    let mut i: usize = 0;
-    while i < samples.len() {
-        samples[i] = sample(numerators[i], levels, unit);
-        i += 1;
+    for (i, y) in numerators.iter().enumerate() {
+        samples[i] = sample(*y, levels, unit);
     }
 }
 
@@ -261,10 +226,7 @@ pub fn restore_all(
     ensures samples_after { samples.new ≡ samples_of levels height width coverings.now plane.now }
     ensures scratch_after { scratch.new ≡ replicate (width * height) (pos 0) }
 {
-    let cells = tables::cells();
     slices::copy(plane, numerators);
-    synthesise(
-        &cells, height, width, levels, coverings, numerators, scratch,
-    );
+    synthesise(height, width, levels, coverings, numerators, scratch);
     round(numerators, levels, samples);
 }

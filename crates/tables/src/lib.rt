@@ -1,12 +1,11 @@
 // The tables that the kernel of a block reads: the 89 placements of a piece, the four of each covering, and the cells of each covering by labels. They are
-// defined from the words of the coverings in specs/Tables.antt, and stand here as constants. Each is handed out whole, so that a caller binds it once and
-// lends it where it is read in a loop.
+// defined from the words of the coverings in specs/Tables.antt, and stand here as statics, which are read where they are used.
 #![tactic(auto)]
 
 ghost use Rattle.std.specs.Prelude.{◌≡◌};
 ghost use Rattle.tables.specs.Tables.{placement_table, four_table, cell_table};
 
-const PLACEMENTS: [u8; 356] = [
+static PLACEMENTS: [u8; 356] = [
     0, 1, 2, 3, 0, 1, 2, 4, 0, 1, 2, 5, 0, 1, 2, 6, 0, 1, 4, 5, 0, 1, 4, 8, 0, 1, 5, 6, 0, 1, 5, 9,
     0, 4, 5, 6, 0, 4, 5, 8, 0, 4, 5, 9, 0, 4, 8, 9, 0, 4, 8, 12, 1, 2, 3, 5, 1, 2, 3, 6, 1, 2, 3,
     7, 1, 2, 5, 6, 1, 2, 5, 9, 1, 2, 6, 10, 1, 5, 6, 9, 1, 5, 6, 10, 1, 5, 9, 10, 1, 5, 9, 13, 2,
@@ -22,7 +21,7 @@ const PLACEMENTS: [u8; 356] = [
     10, 13, 14, 15, 11, 13, 14, 15, 12, 13, 14, 15,
 ];
 
-const FOURS: [u8; 468] = [
+static FOURS: [u8; 468] = [
     0, 36, 74, 88, 0, 36, 75, 87, 0, 36, 76, 84, 0, 36, 77, 78, 0, 37, 71, 88, 0, 37, 72, 82, 0,
     37, 73, 79, 0, 38, 72, 77, 0, 39, 73, 76, 0, 40, 62, 88, 0, 40, 63, 85, 0, 41, 61, 87, 0, 41,
     62, 83, 0, 41, 63, 80, 0, 42, 63, 77, 0, 41, 66, 73, 0, 43, 48, 88, 0, 44, 47, 87, 0, 44, 48,
@@ -44,7 +43,7 @@ const FOURS: [u8; 468] = [
     20, 26, 83, 12, 21, 24, 87, 12, 22, 24, 84, 12, 22, 25, 73, 12, 22, 26, 70, 12, 22, 30, 35,
 ];
 
-const CELLS: [u8; 1872] = [
+static CELLS: [u8; 1872] = [
     0, 1, 2, 3, 4, 5, 6, 7, 8, 9, 10, 11, 12, 13, 14, 15, 0, 1, 2, 3, 4, 5, 6, 7, 8, 9, 10, 12, 11,
     13, 14, 15, 0, 1, 2, 3, 4, 5, 6, 7, 8, 9, 12, 13, 10, 11, 14, 15, 0, 1, 2, 3, 4, 5, 6, 7, 8,
     12, 13, 14, 9, 10, 11, 15, 4, 5, 6, 8, 0, 1, 2, 3, 12, 13, 14, 15, 7, 9, 10, 11, 4, 5, 6, 8, 0,
@@ -116,24 +115,24 @@ const CELLS: [u8; 1872] = [
 
 // The 89 placements of a tetromino that occur in the coverings, four cells each.
 // Two wrong answers that the contract rules out: a placement left out; and the cells of a placement in falling order.
-pub fn placements() -> [u8; 356]
-    ensures { result ≡ placement_table }
+pub fn placements() -> &'static [u8; 356]
+    ensures { result.now ≡ placement_table }
 {
-    PLACEMENTS
+    &PLACEMENTS
 }
 
 // The placements of each covering's four pieces, by their numbers from 0 on.
 // Two wrong answers that the contract rules out: numbers from 1 on; and the pieces in the order of their labels.
-pub fn fours() -> [u8; 468]
-    ensures { result ≡ four_table }
+pub fn fours() -> &'static [u8; 468]
+    ensures { result.now ≡ four_table }
 {
-    FOURS
+    &FOURS
 }
 
 // The cells of each covering's pieces, by labels.
 // Two wrong answers that the contract rules out: the pieces in the order of their names; and two labels exchanged.
-pub fn cells() -> [u8; 1872]
-    ensures { result ≡ cell_table }
+pub fn cells() -> &'static [u8; 1872]
+    ensures { result.now ≡ cell_table }
 {
-    CELLS
+    &CELLS
 }

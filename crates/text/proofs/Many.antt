@@ -1,22 +1,19 @@
 -- As many lines as there are, one by one. Assumes nothing.
 use mathlib.Core.Path.{◌≡◌, refl, sym, ap, ◌∙◌, subst}
+use Rattle.std.specs.Prelude.{Option, Some, None, MatchOption}
 use mathlib.Core.List.{List, [], ◌∷◌}
 use Prim.Native.Nat.{ℕ, zero, suc, ◌-◌, ◌<◌, ◌≤◌}
 use native.Mathlib.Omega.{arith}
 use lib.IntN.{ℤ, pos, nat_abs}
-use lib.ListN.{get_or, length, length-append, drop, drop_of_length-le}
+use lib.ListN.{get_or, length, length-append, drop}
 use Rattle.text.specs.Text.{Parsed, bad, got, and_then, row, many, rows, any, row_text, rows_text, skip, Column, limit, FitsRow, FitsValue}
 use Rattle.text.specs.At.{skip_of, skip_at}
-use Rattle.text.specs.declared.names.Skip.TheVariants.{To, Bad as NotThere}
 use Rattle.text.specs.declared.lines.Three.{Three}
-use Rattle.text.specs.declared.lines.LineOfThree.TheVariants.{Of as OfThree, Bad as NoThree}
 use Rattle.text.proofs.Exact.{skip_sound}
 use Rattle.text.proofs.Read.{bad_got}
-use Rattle.text.specs.Lines.{three, four, five, three_of, three_at, four_of, four_at, five_of, five_at, past_of, cell_at, lines_of, lines_at}
+use Rattle.text.specs.Lines.{three, four, five, three_of, three_at, four_of, four_at, five_of, five_at, past_of, cell_at, lines_of, lines_at, RowRead}
 use Rattle.text.specs.declared.lines.Four.{Four}
 use Rattle.text.specs.declared.lines.Five.{Five}
-use Rattle.text.specs.declared.lines.LineOfFour.TheVariants.{Of as OfFour, Bad as NoFour}
-use Rattle.text.specs.declared.lines.LineOfFive.TheVariants.{Of as OfFive, Bad as NoFive}
 use Rattle.text.proofs.Rows.{rows_sound, row_sound, row_length, row_stops, stops_nil, step, many_suc}
 use Rattle.text.proofs.Cursor.{rest, place}
 
@@ -68,12 +65,6 @@ past_next ks s p q v h e = ap (past_of (length s)) (rows_one ks (drop p s) v (dr
 
 -- ---- the answers of `read_four` and `read_five`, as what was read
 
-pub record RowRead (ks : List Column) (s : List ℕ) (at next : ℕ) : Type 0 where
-  pub cells : List ℤ
-  pub read : row ks (drop at s) ≡ got cells (drop next s)
-  pub within : next ≤ length s
-  pub less : length (drop next s) < length (drop at s)
-
 row_read : (ks : List Column) (s : List ℕ) (at next : ℕ) (v : List ℤ) (r : List ℕ) → 0 < length ks → row ks (drop at s) ≡ got v r → next ≡ length s - length r → RowRead ks s at next
 row_read ks s at next v r p e n =
     let h = row_sound ks (drop at s) v r e in
@@ -85,46 +76,57 @@ row_read ks s at next v r p e n =
       less = subst (λ x. length x < length (drop at s)) (sym f) (row_shorter ks (drop at s) v r p e);
     }
 
-four_got : (s : List ℕ) (at : ℕ) (o : Parsed (List ℤ)) (f : Four) → row four (drop at s) ≡ o → four_of (length s) o ≡ OfFour f → RowRead four s at f.next
+four_got : (s : List ℕ) (at : ℕ) (o : Parsed (List ℤ)) (f : Four) → row four (drop at s) ≡ o → four_of (length s) o ≡ Some f → RowRead four s at f.next
 four_got s at bad f h e = absurd (let z : ◌≡◌ {A = ℕ} 0 1 = cc in omega arith)
 four_got s at (got v r) f h e = row_read four s at f.next v r (omega arith) h (sym (ap (λ x. x.next) (the e)))
   where
-    the : {x y : Four} → OfFour x ≡ OfFour y → x ≡ y
+    the : {x y : Four} → Some x ≡ Some y → x ≡ y
     the q = cc
 
-pub four_at_law : (s : List ℕ) (at : ℕ) (f : Four) → four_at s at ≡ OfFour f → RowRead four s at f.next
+pub four_at_law : (s : List ℕ) (at : ℕ) (f : Four) → four_at s at ≡ Some f → RowRead four s at f.next
 four_at_law s at f e = four_got s at (row four (drop at s)) f refl e
 
-four_no : (n : ℕ) (o : Parsed (List ℤ)) → four_of n o ≡ NoFour → o ≡ bad
+four_no : (n : ℕ) (o : Parsed (List ℤ)) → four_of n o ≡ None → o ≡ bad
 four_no n bad e = refl
 four_no n (got v r) e = absurd (let z : ◌≡◌ {A = ℕ} 0 1 = cc in omega arith)
 
-pub four_none : (s : List ℕ) (at : ℕ) → four_at s at ≡ NoFour → row four (drop at s) ≡ bad
+pub four_none : (s : List ℕ) (at : ℕ) → four_at s at ≡ None → row four (drop at s) ≡ bad
 four_none s at e = four_no (length s) (row four (drop at s)) e
 
-five_got : (s : List ℕ) (at : ℕ) (o : Parsed (List ℤ)) (f : Five) → row five (drop at s) ≡ o → five_of (length s) o ≡ OfFive f → RowRead five s at f.next
+pub four_read : (s : List ℕ) (at : ℕ) → MatchOption (four_at s at) (row four (drop at s) ≡ bad) (λ f. RowRead four s at f.next)
+four_read s at = go (four_at s at) refl
+  where
+    go : (o : Option Four) → four_at s at ≡ o → MatchOption o (row four (drop at s) ≡ bad) (λ f. RowRead four s at f.next)
+    go None e = four_none s at e
+    go (Some f) e = four_at_law s at f e
+
+five_got : (s : List ℕ) (at : ℕ) (o : Parsed (List ℤ)) (f : Five) → row five (drop at s) ≡ o → five_of (length s) o ≡ Some f → RowRead five s at f.next
 five_got s at bad f h e = absurd (let z : ◌≡◌ {A = ℕ} 0 1 = cc in omega arith)
 five_got s at (got v r) f h e = row_read five s at f.next v r (omega arith) h (sym (ap (λ x. x.next) (the e)))
   where
-    the : {x y : Five} → OfFive x ≡ OfFive y → x ≡ y
+    the : {x y : Five} → Some x ≡ Some y → x ≡ y
     the q = cc
 
-pub five_at_law : (s : List ℕ) (at : ℕ) (f : Five) → five_at s at ≡ OfFive f → RowRead five s at f.next
+pub five_at_law : (s : List ℕ) (at : ℕ) (f : Five) → five_at s at ≡ Some f → RowRead five s at f.next
 five_at_law s at f e = five_got s at (row five (drop at s)) f refl e
 
-five_no : (n : ℕ) (o : Parsed (List ℤ)) → five_of n o ≡ NoFive → o ≡ bad
+five_no : (n : ℕ) (o : Parsed (List ℤ)) → five_of n o ≡ None → o ≡ bad
 five_no n bad e = refl
 five_no n (got v r) e = absurd (let z : ◌≡◌ {A = ℕ} 0 1 = cc in omega arith)
 
-pub five_none : (s : List ℕ) (at : ℕ) → five_at s at ≡ NoFive → row five (drop at s) ≡ bad
+pub five_none : (s : List ℕ) (at : ℕ) → five_at s at ≡ None → row five (drop at s) ≡ bad
 five_none s at e = five_no (length s) (row five (drop at s)) e
+
+pub five_read : (s : List ℕ) (at : ℕ) → MatchOption (five_at s at) (row five (drop at s) ≡ bad) (λ f. RowRead five s at f.next)
+five_read s at = go (five_at s at) refl
+  where
+    go : (o : Option Five) → five_at s at ≡ o → MatchOption o (row five (drop at s) ≡ bad) (λ f. RowRead five s at f.next)
+    go None e = five_none s at e
+    go (Some f) e = five_at_law s at f e
 
 -- where no line is, the lines end
 pub past_stop : (ks : List Column) (s : List ℕ) (p : ℕ) → p ≤ length s → row ks (drop p s) ≡ bad → p ≡ past_of (length s) (rows any ks (drop p s))
 past_stop ks s p h e = sym (ap (past_of (length s)) (rows_none ks (drop p s) e) ∙ place s p h)
-
-pub past_end : (ks : List Column) (s : List ℕ) (p : ℕ) → 0 < length ks → p ≤ length s → length s ≤ p → p ≡ past_of (length s) (rows any ks (drop p s))
-past_end ks s p k h l = past_stop ks s p h (ap (row ks) (drop_of_length-le s l) ∙ row_stops ks [] k stops_nil)
 
 -- ---- names, a line of three, and lines, at a place
 
@@ -132,37 +134,37 @@ pub record SkipRead (ns s : List ℕ) (at next : ℕ) : Type 0 where
   pub read : skip ns (drop at s) ≡ got tt (drop next s)
   pub within : next ≤ length s
 
-skip_got : (ns s : List ℕ) (at next : ℕ) (o : Parsed Unit) → skip ns (drop at s) ≡ o → skip_of (length s) o ≡ To next → SkipRead ns s at next
+skip_got : (ns s : List ℕ) (at next : ℕ) (o : Parsed Unit) → skip ns (drop at s) ≡ o → skip_of (length s) o ≡ Some next → SkipRead ns s at next
 skip_got ns s at next bad h e = absurd (let z : ◌≡◌ {A = ℕ} 0 1 = cc in omega arith)
 skip_got ns s at next (got u r) h e =
     let n : length s - length r ≡ next = cc in
     record { read = h ∙ ap (got tt) (sym (rest s at ns r (skip_sound ns (drop at s) u r h)) ∙ ap (λ x. drop x s) n); within = omega (arith, n) }
 
-pub skip_at_law : (ns s : List ℕ) (at next : ℕ) → skip_at s at ns ≡ To next → SkipRead ns s at next
+pub skip_at_law : (ns s : List ℕ) (at next : ℕ) → skip_at s at ns ≡ Some next → SkipRead ns s at next
 skip_at_law ns s at next e = skip_got ns s at next (skip ns (drop at s)) refl e
 
-skip_no : (n : ℕ) (o : Parsed Unit) → skip_of n o ≡ NotThere → o ≡ bad
+skip_no : (n : ℕ) (o : Parsed Unit) → skip_of n o ≡ None → o ≡ bad
 skip_no n bad e = refl
 skip_no n (got u r) e = absurd (let z : ◌≡◌ {A = ℕ} 0 1 = cc in omega arith)
 
-pub skip_none : (ns s : List ℕ) (at : ℕ) → skip_at s at ns ≡ NotThere → skip ns (drop at s) ≡ bad
+pub skip_none : (ns s : List ℕ) (at : ℕ) → skip_at s at ns ≡ None → skip ns (drop at s) ≡ bad
 skip_none ns s at e = skip_no (length s) (skip ns (drop at s)) e
 
-three_got : (s : List ℕ) (at : ℕ) (o : Parsed (List ℤ)) (f : Three) → row three (drop at s) ≡ o → three_of (length s) o ≡ OfThree f → RowRead three s at f.next
+three_got : (s : List ℕ) (at : ℕ) (o : Parsed (List ℤ)) (f : Three) → row three (drop at s) ≡ o → three_of (length s) o ≡ Some f → RowRead three s at f.next
 three_got s at bad f h e = absurd (let z : ◌≡◌ {A = ℕ} 0 1 = cc in omega arith)
 three_got s at (got v r) f h e = row_read three s at f.next v r (omega arith) h (sym (ap (λ x. x.next) (the e)))
   where
-    the : {x y : Three} → OfThree x ≡ OfThree y → x ≡ y
+    the : {x y : Three} → Some x ≡ Some y → x ≡ y
     the q = cc
 
-pub three_at_law : (s : List ℕ) (at : ℕ) (f : Three) → three_at s at ≡ OfThree f → RowRead three s at f.next
+pub three_at_law : (s : List ℕ) (at : ℕ) (f : Three) → three_at s at ≡ Some f → RowRead three s at f.next
 three_at_law s at f e = three_got s at (row three (drop at s)) f refl e
 
-three_no : (n : ℕ) (o : Parsed (List ℤ)) → three_of n o ≡ NoThree → o ≡ bad
+three_no : (n : ℕ) (o : Parsed (List ℤ)) → three_of n o ≡ None → o ≡ bad
 three_no n bad e = refl
 three_no n (got v r) e = absurd (let z : ◌≡◌ {A = ℕ} 0 1 = cc in omega arith)
 
-pub three_none : (s : List ℕ) (at : ℕ) → three_at s at ≡ NoThree → row three (drop at s) ≡ bad
+pub three_none : (s : List ℕ) (at : ℕ) → three_at s at ≡ None → row three (drop at s) ≡ bad
 three_none s at e = three_no (length s) (row three (drop at s)) e
 
 -- lines that there may be any number of are never bad
@@ -220,13 +222,13 @@ pub record FourLine (s : List ℕ) (at : ℕ) (f : Four) : Type 0 where
   pub third : f.third ≡ cell_at cells 2
   pub fourth : f.fourth ≡ cell_at cells 3
 
-pub four_line : (s : List ℕ) (at : ℕ) (f : Four) → four_at s at ≡ OfFour f → FourLine s at f
+pub four_line : (s : List ℕ) (at : ℕ) (f : Four) → four_at s at ≡ Some f → FourLine s at f
 four_line s at f e = go (row four (drop at s)) refl e
   where
-    the : {x y : Four} → OfFour x ≡ OfFour y → x ≡ y
+    the : {x y : Four} → Some x ≡ Some y → x ≡ y
     the q = cc
 
-    go : (o : Parsed (List ℤ)) → row four (drop at s) ≡ o → four_of (length s) o ≡ OfFour f → FourLine s at f
+    go : (o : Parsed (List ℤ)) → row four (drop at s) ≡ o → four_of (length s) o ≡ Some f → FourLine s at f
     go bad h g = absurd (let z : ◌≡◌ {A = ℕ} 0 1 = cc in omega arith)
     go (got v r) h g =
         let i = the g in
@@ -258,13 +260,13 @@ pub record FiveLine (s : List ℕ) (at : ℕ) (f : Five) : Type 0 where
   pub value : f.value ≡ get_or cells 4 (pos 0)
   pub small : nat_abs (get_or cells 4 (pos 0)) ≤ limit
 
-pub five_line : (s : List ℕ) (at : ℕ) (f : Five) → five_at s at ≡ OfFive f → FiveLine s at f
+pub five_line : (s : List ℕ) (at : ℕ) (f : Five) → five_at s at ≡ Some f → FiveLine s at f
 five_line s at f e = go (row five (drop at s)) refl e
   where
-    the : {x y : Five} → OfFive x ≡ OfFive y → x ≡ y
+    the : {x y : Five} → Some x ≡ Some y → x ≡ y
     the q = cc
 
-    go : (o : Parsed (List ℤ)) → row five (drop at s) ≡ o → five_of (length s) o ≡ OfFive f → FiveLine s at f
+    go : (o : Parsed (List ℤ)) → row five (drop at s) ≡ o → five_of (length s) o ≡ Some f → FiveLine s at f
     go bad h g = absurd (let z : ◌≡◌ {A = ℕ} 0 1 = cc in omega arith)
     go (got v r) h g =
         let i = the g in
@@ -286,13 +288,13 @@ pub record ThreeLine (s : List ℕ) (at : ℕ) (f : Three) : Type 0 where
   pub second : f.second ≡ cell_at cells 1
   pub third : f.third ≡ cell_at cells 2
 
-pub three_line : (s : List ℕ) (at : ℕ) (f : Three) → three_at s at ≡ OfThree f → ThreeLine s at f
+pub three_line : (s : List ℕ) (at : ℕ) (f : Three) → three_at s at ≡ Some f → ThreeLine s at f
 three_line s at f e = go (row three (drop at s)) refl e
   where
-    the : {x y : Three} → OfThree x ≡ OfThree y → x ≡ y
+    the : {x y : Three} → Some x ≡ Some y → x ≡ y
     the q = cc
 
-    go : (o : Parsed (List ℤ)) → row three (drop at s) ≡ o → three_of (length s) o ≡ OfThree f → ThreeLine s at f
+    go : (o : Parsed (List ℤ)) → row three (drop at s) ≡ o → three_of (length s) o ≡ Some f → ThreeLine s at f
     go bad h g = absurd (let z : ◌≡◌ {A = ℕ} 0 1 = cc in omega arith)
     go (got v r) h g =
         let i = the g in

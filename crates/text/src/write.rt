@@ -45,12 +45,9 @@ fn put_digits(out: &mut [u8], at: usize, w: usize, v: u32)
     ensures { out.new ≡ stamped w at v out.old }
 {
     let mut x = v;
-    let mut i = w;
-    while 0 < i {
-        i -= 1;
-        let k = at + i;
-        out[k] = 48 + (x % 10) as u8;
-        x = x / 10;
+    for i in (0..w).rev() {
+        out[at + i] = b'0' + (x % 10) as u8;
+        x /= 10;
     }
 }
 
@@ -94,9 +91,9 @@ pub fn put_four(out: &mut [u8], at: usize, a: u32, b: u32, c: u32, d: u32, end: 
     ensures value { result ≡ at + length (four_text a b c d end) }
     ensures out_after { out.new ≡ stamp at (four_text a b c d end) out.old }
 {
-    let p = put_cell(out, at, a, 32);
-    let q = put_cell(out, p, b, 32);
-    let r = put_cell(out, q, c, 32);
+    let p = put_cell(out, at, a, b' ');
+    let q = put_cell(out, p, b, b' ');
+    let r = put_cell(out, q, c, b' ');
     put_cell(out, r, d, end)
 }
 
@@ -121,7 +118,7 @@ pub fn put_value(out: &mut [u8], at: usize, v: i64) -> usize
 {
     let m = integers::magnitude(v) as u32;
     if v < 0 {
-        out[at] = 45;
+        out[at] = b'-';
         return put_number(out, at + 1, m);
     }
     put_number(out, at, m)
@@ -132,7 +129,7 @@ pub fn five_width(a: u32, b: u32, c: u32, d: u32, v: i64) -> usize
     requires { (a ≤ limit) × (b ≤ limit) × (c ≤ limit) × (d ≤ limit) × (nat_abs v ≤ limit) }
     ensures { (result ≡ length (five_text a b c d v)) × (result ≤ 64) }
 {
-    let w = four_width(a, b, c, d, 32);
+    let w = four_width(a, b, c, d, b' ');
     let x = value_width(v);
     w + x + 1
 }
@@ -144,9 +141,9 @@ pub fn put_five(out: &mut [u8], at: usize, a: u32, b: u32, c: u32, d: u32, v: i6
     ensures value { result ≡ at + length (five_text a b c d v) }
     ensures out_after { out.new ≡ stamp at (five_text a b c d v) out.old }
 {
-    let p = put_four(out, at, a, b, c, d, 32);
+    let p = put_four(out, at, a, b, c, d, b' ');
     let q = put_value(out, p, v);
-    out[q] = 10;
+    out[q] = b'\n';
     q + 1
 }
 
@@ -156,11 +153,7 @@ pub fn put_bytes(out: &mut [u8], at: usize, bytes: &[u8]) -> usize
     ensures value { result ≡ at + length bytes.now }
     ensures out_after { out.new ≡ stamp at bytes.now out.old }
 {
-    let mut i = 0;
-    while i < bytes.len() {
-        let p = at + i;
-        out[p] = bytes[i];
-        i += 1;
-    }
-    at + bytes.len()
+    let end = at + bytes.len();
+    out[at..end].copy_from_slice(bytes);
+    end
 }

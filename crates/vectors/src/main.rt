@@ -21,9 +21,9 @@ use std::io;
 fn tell_all(rt: &impl Print, words: &[u8]) -> io::Result<()> {
     tell(rt, b"decompose", pictures::group(words))?;
     tell(rt, b"within", pictures::within_group(words))?;
-    tell(rt, b"within 0", pictures::zero_group(words))?;
+    tell(rt, b"within 0", pictures::zero_group())?;
     tell(rt, b"listed", pictures::listed_group(words))?;
-    tell(rt, b"listed 117", pictures::full_group(words))?;
+    tell(rt, b"listed 117", pictures::full_group())?;
     tell(rt, b"restore", planes::group(words))?;
     tell(rt, b"restore listed", planes::listed_group(words))?;
     tell(rt, b"keep", marks::keep_group())?;

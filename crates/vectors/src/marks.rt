@@ -1,69 +1,41 @@
 // Planes, of which the largest entries are kept or which are cut by a threshold, by the coder and by the plain second implementation; and planes that the
 // coder cuts twice and the second implementation once.
 use case_planes::{fill, sparse_case_at};
-use cases::answers::{outcome, settled};
-use cases::inputs::Case;
-use cases::tally::{Tally, Verdict, same_values};
+use cases::answers::{Answer, compare, of_coder, of_plain};
+use cases::inputs::{Case, smaller};
+use cases::safe::{first_mut, plus};
+use cases::tally::Tally;
 
-// Both keep the largest of a plane, which stands in two slices.
-fn both_keep(k: Case, plane: &mut [i64], plane2: &mut [i64], quota: u64) -> Verdict {
-    let x = outcome(keeping::keep(k.height, k.width, k.levels, plane, quota));
-    let y = plain::cut::keep(k.height, k.width, k.levels, plane2, quota);
-    settled(x, y, same_values(plane, plane2))
+fn plane_of(k: Case) -> [i64; 1024] {
+    let mut plane = [0; 1024];
+    let mut coverings = [1; 512];
+    fill(k, &mut plane, &mut coverings);
+    plane
 }
 
-// Both cut a plane, which stands in two slices.
-fn both_cut(k: Case, plane: &mut [i64], plane2: &mut [i64], limit: u64) -> Verdict {
-    let x = outcome(keeping::threshold(k.height, k.width, k.levels, plane, limit));
-    let y = plain::cut::cut(k.height, k.width, k.levels, plane2, limit);
-    settled(x, y, same_values(plane, plane2))
+fn keep(k: Case, quota: u64, plane: &mut [i64]) -> Answer<usize> {
+    of_coder(keeping::keep(k.height, k.width, k.levels, first_mut(plane, k.n), quota))
 }
 
-// The coder keeps twice, the second implementation once, by the smaller quota.
-fn keep_again(k: Case, plane: &mut [i64], plane2: &mut [i64], first: u64, second: u64) -> Verdict {
-    keeping::keep(k.height, k.width, k.levels, plane, first);
-    let x = outcome(keeping::keep(k.height, k.width, k.levels, plane, second));
-    let once = if first < second { first } else { second };
-    let y = plain::cut::keep(k.height, k.width, k.levels, plane2, once);
-    settled(x, y, same_values(plane, plane2))
+fn keep_plain(k: Case, quota: u64, plane: &mut [i64]) -> Answer<usize> {
+    of_plain(plain::cut::keep(k.height, k.width, k.levels, first_mut(plane, k.n), quota))
 }
 
-// The coder cuts twice, the second implementation once, by the larger threshold.
-fn cut_again(k: Case, plane: &mut [i64], plane2: &mut [i64], first: u64, second: u64) -> Verdict {
-    keeping::threshold(k.height, k.width, k.levels, plane, first);
-    let x = outcome(keeping::threshold(k.height, k.width, k.levels, plane, second));
-    let once = if first < second { second } else { first };
-    let y = plain::cut::cut(k.height, k.width, k.levels, plane2, once);
-    settled(x, y, same_values(plane, plane2))
+fn cut(k: Case, limit: u64, plane: &mut [i64]) -> Answer<usize> {
+    of_coder(keeping::threshold(k.height, k.width, k.levels, first_mut(plane, k.n), limit))
 }
 
-// What is done with a plane.
-#[derive(Drop)]
-enum Task {
-    Keep(u64),
-    Cut(u64),
-    KeepAgain(u64, u64),
-    CutAgain(u64, u64),
-}
-
-fn work(k: Case, plane: &mut [i64], plane2: &mut [i64], task: Task) -> Verdict {
-    match task {
-        Task::Keep(quota) => both_keep(k, plane, plane2, quota),
-        Task::Cut(limit) => both_cut(k, plane, plane2, limit),
-        Task::KeepAgain(first, second) => keep_again(k, plane, plane2, first, second),
-        Task::CutAgain(first, second) => cut_again(k, plane, plane2, first, second),
-    }
+fn cut_plain(k: Case, limit: u64, plane: &mut [i64]) -> Answer<usize> {
+    of_plain(plain::cut::cut(k.height, k.width, k.levels, first_mut(plane, k.n), limit))
 }
 
 // How many tetrolet entries a plane has: all but those of its low-pass band.
 fn entries(k: Case) -> usize {
     let mut low = k.n;
-    let mut left = k.levels;
-    while 0 < left {
-        low = low / 4;
-        left -= 1;
+    for _ in 0..k.levels {
+        low /= 4;
     }
-    cases::safe::minus(k.n, low)
+    k.n.saturating_sub(low)
 }
 
 // The quotas: none, one, three, half, all, and one more than all.
@@ -75,7 +47,7 @@ fn quota(k: Case, which: usize) -> u64 {
         2 => 3,
         3 => (all / 2) as u64,
         4 => all as u64,
-        _ => cases::safe::plus(all, 1) as u64,
+        _ => plus(all, 1) as u64,
     }
 }
 
@@ -90,67 +62,66 @@ fn limit(which: usize) -> u64 {
     }
 }
 
-// The plane of a case, in two slices, is worked on.
-fn compare(k: Case, task: Task) -> Verdict {
-    let n = k.n;
-    if 1024 < n {
-        return Verdict::Differs;
-    }
-    let mut plane = [0i64; 1024];
-    let mut coverings = [1u8; 512];
-    fill(k, &mut plane, &mut coverings);
-    let mut plane2 = plane;
-    work(k, &mut plane[..n], &mut plane2[..n], task)
-}
-
 // Some planes of the group `restore`, each with every quota.
 pub fn keep_group() -> Tally {
-    let mut t = cases::tally::none();
-    let mut c: usize = 0;
-    while c < 9216 {
-        let k = cases::inputs::smaller(sparse_case_at(c / 6));
-        let v = compare(k, Task::Keep(quota(k, c % 6)));
-        t = cases::tally::counted_case(t, k, v);
-        c += 1;
-    }
-    t
+    Tally::of_cases(9216, |c| {
+        let k = smaller(sparse_case_at(c / 6));
+        let n = quota(k, c % 6);
+        let p = compare(
+            plane_of(k),
+            |plane| keep(k, n, plane),
+            |plane| keep_plain(k, n, plane),
+        );
+        (k, p.verdict())
+    })
 }
 
 // Some planes of the group `restore`, each with every threshold.
 pub fn threshold_group() -> Tally {
-    let mut t = cases::tally::none();
-    let mut c: usize = 0;
-    while c < 9216 {
+    Tally::of_cases(9216, |c| {
         let k = sparse_case_at(c / 6);
-        let v = compare(k, Task::Cut(limit(c % 6)));
-        t = cases::tally::counted_case(t, k, v);
-        c += 1;
-    }
-    t
+        let n = limit(c % 6);
+        let p = compare(
+            plane_of(k),
+            |plane| cut(k, n, plane),
+            |plane| cut_plain(k, n, plane),
+        );
+        (k, p.verdict())
+    })
 }
 
-// Fewer planes, each with every two quotas that are accepted.
+// Fewer planes, each with every two quotas that are accepted: the coder keeps twice, the second implementation once, by the smaller quota.
 pub fn keep_again_group() -> Tally {
-    let mut t = cases::tally::none();
-    let mut c: usize = 0;
-    while c < 15000 {
-        let k = cases::inputs::smaller(sparse_case_at(c / 25));
-        let v = compare(k, Task::KeepAgain(quota(k, c / 5 % 5), quota(k, c % 5)));
-        t = cases::tally::counted_case(t, k, v);
-        c += 1;
-    }
-    t
+    Tally::of_cases(15000, |c| {
+        let k = smaller(sparse_case_at(c / 25));
+        let n = quota(k, c / 5 % 5);
+        let m = quota(k, c % 5);
+        let p = compare(
+            plane_of(k),
+            |plane| {
+                let _ = keep(k, n, plane);
+                keep(k, m, plane)
+            },
+            |plane| keep_plain(k, n.min(m), plane),
+        );
+        (k, p.verdict())
+    })
 }
 
-// Fewer planes, each with every two thresholds that are accepted.
+// Fewer planes, each with every two thresholds that are accepted: the coder cuts twice, the second implementation once, by the larger threshold.
 pub fn cut_again_group() -> Tally {
-    let mut t = cases::tally::none();
-    let mut c: usize = 0;
-    while c < 15000 {
+    Tally::of_cases(15000, |c| {
         let k = sparse_case_at(c / 25);
-        let v = compare(k, Task::CutAgain(limit(c / 5 % 5), limit(c % 5)));
-        t = cases::tally::counted_case(t, k, v);
-        c += 1;
-    }
-    t
+        let n = limit(c / 5 % 5);
+        let m = limit(c % 5);
+        let p = compare(
+            plane_of(k),
+            |plane| {
+                let _ = cut(k, n, plane);
+                cut(k, m, plane)
+            },
+            |plane| cut_plain(k, n.max(m), plane),
+        );
+        (k, p.verdict())
+    })
 }

@@ -1,18 +1,18 @@
 // Planes reckoned by hand, and both sides of 20. Their first low-pass entry and one tetrolet entry are told, all others are 0, and each block has the same covering.
 // With covering 1, whose piece 0 is column 0, the first four numerators of a block are low-pass + W1 twice, then low-pass - W1 twice.
-use crate::calls::{Way, left_by, pair};
+use crate::calls::{Room, both, restore};
 use cases::inputs::{Case, case_of};
 use cases::masters::master_of;
-use cases::safe::{put_value, sample_at, value_at};
+use cases::safe::{load, store};
 use cases::strips::flawed_strip;
-use pairs::answers::{end, put, put_signed, tell};
+use pairs::answers::{end, put, tell};
 use std::io;
 
 fn put_frame(rt: &impl Print, k: Case, covering: u8) -> io::Result<()> {
-    put(rt, b"height ", k.height as u64)?;
-    put(rt, b"levels ", k.levels as u64)?;
-    put(rt, b"plane ", k.n as u64)?;
-    put(rt, b"covering ", covering as u64)
+    put(rt, b"height ", k.height)?;
+    put(rt, b"levels ", k.levels)?;
+    put(rt, b"plane ", k.n)?;
+    put(rt, b"covering ", covering)
 }
 
 // Both on a plane, and the first numerator and the first sample that the coder leaves; before they were 7 and 9.
@@ -24,11 +24,11 @@ fn tell_both(
     coverings: &[u8],
 ) -> io::Result<()> {
     let m = master_of(k);
-    let x = left_by(words, m, Way::Coder, plane, coverings);
-    let y = left_by(words, m, Way::Plain, plane, coverings);
-    let agreed = tell(rt, true, b"master", pair(x, y))?;
-    put_signed(rt, b"numerator ", value_at(&x.numerators, 0))?;
-    put(rt, b"sample ", sample_at(&x.samples, 0) as u64)?;
+    let agreed = tell(rt, true, b"master", both(words, m, plane, coverings))?;
+    let mut room = Room::new();
+    let _ = restore(m, plane, coverings, &mut room);
+    put(rt, b"numerator ", load(&room.numerators, 0))?;
+    put(rt, b"sample ", load(&room.samples, 0))?;
     end(rt, agreed)
 }
 
@@ -42,12 +42,12 @@ fn example(
     value: i64,
 ) -> io::Result<()> {
     put_frame(rt, k, covering)?;
-    put_signed(rt, b"low-pass ", low)?;
-    put(rt, b"place ", at as u64)?;
-    put_signed(rt, b"value ", value)?;
+    put(rt, b"low-pass ", low)?;
+    put(rt, b"place ", at)?;
+    put(rt, b"value ", value)?;
     let mut plane = [0i64; 65];
-    put_value(&mut plane, at, value);
-    put_value(&mut plane, 0, low);
+    store(&mut plane, at, value);
+    store(&mut plane, 0, low);
     let coverings = [covering; 6];
     tell_both(rt, words, k, &plane, &coverings)
 }

@@ -1,36 +1,37 @@
 // Generated planes, restored as masters: uncut planes of pictures, decomposed without a tolerance, with one and with a list of coverings, kept and cut planes and
 // planes of any values, each as it is and with a change; and planes of small pictures with flaws.
-use crate::calls::{Way, left_by, pair};
+use crate::calls::both;
 use case_planes::fill_cut;
-use cases::answers::settled;
 use cases::inputs::{Case, fill_picture};
 use cases::lists::{fill_list, lent};
 use cases::masters::{Master, change, flawed, good_case_at, master_of};
+use cases::safe::{first, first_mut};
 use cases::strips::{small_join_at, spoil};
 use cases::tally::{Tally, Verdict};
-use pairs::front;
 
 // The uncut plane and the coverings of a picture of a kind that is not refused, by the coder, with a tolerance and a list by the seed: one covering, the last,
 // sixteen, or all.
 fn fill_uncut(k: Case, plane: &mut [i64], coverings: &mut [u8]) {
-    let mut picture = k;
-    picture.kind = k.kind % 6;
-    let mut samples = [0u16; 1024];
+    let picture = Case {
+        kind: k.kind % 6,
+        ..k
+    };
+    let mut samples = [0; 1024];
     fill_picture(picture, &mut samples);
     let which = k.seed / 128 % 4;
     let mut list = [0u8; 300];
     fill_list(which, k.seed, &mut list);
     let mut scratch = [0i64; 1024];
-    listing::decompose_listed(
+    let _ = listing::decompose_listed(
         k.height,
         k.width,
         k.levels,
         (k.seed % 1024) as u64,
-        front::samples(&samples, k.n),
+        first(&samples, k.n),
         lent(which, &list),
-        front::values_mut(plane, k.n),
-        front::bytes_mut(coverings, k.b),
-        front::values_mut(&mut scratch, k.n),
+        first_mut(plane, k.n),
+        first_mut(coverings, k.b),
+        first_mut(&mut scratch, k.n),
     );
 }
 
@@ -58,24 +59,15 @@ fn one_master(
     change(k, which, &mut plane, &mut coverings);
     spoil(k, flaw, &mut plane, &mut coverings);
     spoil(k, flaw2, &mut plane, &mut coverings);
-    let p = pair(
-        left_by(words, m, Way::Coder, &plane, &coverings),
-        left_by(words, m, Way::Plain, &plane, &coverings),
-    );
-    settled(p.coder, p.plain, p.same)
+    both(words, m, &plane, &coverings).verdict()
 }
 
 // Each plane with every change.
 pub fn group(words: &[u8]) -> Tally {
-    let mut t = cases::tally::none();
-    let mut c: usize = 0;
-    while c < 14336 {
+    Tally::of_cases(14336, |c| {
         let k = good_case_at(c / 8);
-        let v = one_master(words, k, master_of(k), c % 8, 0, 0);
-        t = cases::tally::counted_case(t, k, v);
-        c += 1;
-    }
-    t
+        (k, one_master(words, k, master_of(k), c % 8, 0, 0))
+    })
 }
 
 fn one_flawed(words: &[u8], k: Case, flaw: usize, flaw2: usize) -> Verdict {
@@ -85,13 +77,8 @@ fn one_flawed(words: &[u8], k: Case, flaw: usize, flaw2: usize) -> Verdict {
 
 // Small pictures of six heights and widths, twice, each with every two flaws.
 pub fn flawed_group(words: &[u8]) -> Tally {
-    let mut t = cases::tally::none();
-    let mut c: usize = 0;
-    while c < 6348 {
+    Tally::of_cases(6348, |c| {
         let j = small_join_at(c / 529);
-        let v = one_flawed(words, j.left, c % 23, c / 23 % 23);
-        t = cases::tally::counted_case(t, j.left, v);
-        c += 1;
-    }
-    t
+        (j.left, one_flawed(words, j.left, c % 23, c / 23 % 23))
+    })
 }

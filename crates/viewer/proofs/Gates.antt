@@ -1,6 +1,5 @@
 -- The checks of the entry window: the number of each call by what is found, and what is found where none refuses; the laws of windows. Assumes nothing.
 use mathlib.Core.Path.{◌≡◌, refl, sym, ap, ◌∙◌}
-use mathlib.Core.Logic.{◌⊎◌, inl, inr}
 use mathlib.Core.Bool.{Bool, true, false, not, ◌&&◌}
 use mathlib.Core.List.{List}
 use Prim.Native.Nat.{ℕ, ◌+◌, ◌*◌, ◌-◌, ◌<◌, ◌≤◌}
@@ -12,7 +11,7 @@ use lib.ListN.{length, replicate, length-replicate}
 use Rattle.refusals.specs.Refusal.{number_of, refuse_if, after_call}
 use Rattle.refusals.specs.declared.Refusal.{Refusal}
 use Rattle.refusals.proofs.After.{unchanged, past}
-use Rattle.integers.proofs.Tests.{is_true, is_false, both, both_left, both_right, both_true, two_hold, not_both, decided, refused, eq→eqb}
+use Rattle.integers.proofs.Tests.{is_true, is_false, both, both_left, both_right, both_true, two_hold, not_both, eq→eqb}
 use Rattle.terms.specs.Terms.{Terms}
 use Rattle.pyramid.specs.Sides.{is_plane, is_coverings}
 use Rattle.pyramid.specs.Slices.{samples_of}
@@ -35,17 +34,6 @@ within_is n first count t = (ltb→lt 0 count (both_left (ltb 0 count) (leb (fir
 
 is_within_law : (n first count : ℕ) → 0 < count → first + count ≤ n → T (is_within n first count)
 is_within_law n first count k l = both (ltb 0 count) (leb (first + count) n) (lt→ltb 0 count k) (le→leb (first + count) n l)
-
--- the returns of the test
-pub outside : (n first count : ℕ) → (0 < count → first + count ≤ n → ⊥) → ◌≡◌ {A = Bool} false (is_within n first count)
-outside n first count f = sym (is_false (is_within n first count) (λ t. let i = within_is n first count t in f i.0 i.1))
-
-pub last_test : (n first count : ℕ) → 0 < count → count ≤ n → leb first (n - count) ≡ is_within n first count
-last_test n first count k l = go (decided (leb first (n - count)))
-  where
-    go : T (leb first (n - count)) ⊎ T (not (leb first (n - count))) → leb first (n - count) ≡ is_within n first count
-    go (inl t) = is_true (leb first (n - count)) t ∙ sym (is_true (is_within n first count) (is_within_law n first count k (omega (arith, leb→le first (n - count) t))))
-    go (inr t) = is_false (leb first (n - count)) (refused (leb first (n - count)) t) ∙ outside n first count (λ i j. refused (leb first (n - count)) t (le→leb first (n - count) (omega arith)))
 
 module _ (h w : ℕ) (v : View) where
   pub inside : T (fits_window h w v) → Inside v h w

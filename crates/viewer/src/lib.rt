@@ -9,7 +9,7 @@ ghost use Rattle.strips.specs.Strip.{strip_of};
 ghost use Rattle.viewer.specs.Window.{view_of, is_within, window_refusal, Viewed};
 ghost use Rattle.viewer.specs.Claims.{ViewerLaws};
 
-use refusals::{Answer, Refusal};
+use refusals::Refusal;
 use windows::View;
 
 // The least number of cells of a window. With it stand the laws of windows.
@@ -24,13 +24,7 @@ pub fn fewest_cells() -> usize
 fn is_within(n: usize, first: usize, count: usize) -> bool
     ensures { result ≡ is_within n first count }
 {
-    if count == 0 {
-        return false;
-    }
-    if n < count {
-        return false;
-    }
-    first <= n - count
+    0 < count && count <= n && first <= n - count
 }
 
 // The checks of window. Document 02, wish 9: those of restoring without a list, and 17 "after 2 and before 3".
@@ -42,29 +36,26 @@ fn window_checks(
     coverings: &[u8],
     v: View,
     samples: &[u16],
-) -> Answer
+) -> Result<(), Refusal>
     ensures { answer_of result ≡ window_refusal (strip_of height width levels plane.now coverings.now) v samples.now }
 {
-    let sized = places::checks::size_checks(height, width, levels);
-    if let Answer::Refused(r) = sized {
-        return Answer::Refused(r);
-    }
+    places::checks::size_checks(height, width, levels)?;
     let fits = is_within(height, v.top, v.tall) & is_within(width, v.left, v.wide);
     if !fits {
-        return Answer::Refused(Refusal::Window);
+        return Err(Refusal::Window);
     }
     let framed = coder::is_framed(height, width, levels, plane, coverings)
         & (samples.len() == v.wide * v.tall);
     if !framed {
-        return Answer::Refused(Refusal::Frame);
+        return Err(Refusal::Frame);
     }
     if !places::checks::all_numbers(coverings) {
-        return Answer::Refused(Refusal::Covering);
+        return Err(Refusal::Covering);
     }
     if !ranges::in_range(plane, height as u32, width as u32, levels as u32) {
-        return Answer::Refused(Refusal::Coefficient);
+        return Err(Refusal::Coefficient);
     }
-    Answer::Done
+    Ok(())
 }
 
 // Restores the samples of a window, `tall` rows from `top` on and `wide` columns from `left` on, of the picture that a plane restores to.
@@ -80,7 +71,7 @@ pub fn window(
     tall: usize,
     wide: usize,
     samples: &mut [u16],
-) -> Answer
+) -> Result<(), Refusal>
     ensures { Viewed (strip_of height width levels plane.now coverings.now) (view_of top left tall wide) samples.old samples.new (answer_of result) }
 {
     let v = View {
@@ -89,10 +80,7 @@ pub fn window(
         tall,
         wide,
     };
-    let found = window_checks(height, width, levels, plane, coverings, v, samples);
-    if let Answer::Refused(r) = found {
-        return Answer::Refused(r);
-    }
+    window_checks(height, width, levels, plane, coverings, v, samples)?;
     windows::fill_window(height, width, levels, plane, coverings, v, samples);
-    Answer::Done
+    Ok(())
 }

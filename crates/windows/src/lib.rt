@@ -2,8 +2,7 @@
 // over. Nothing but the window's slice is lent to be stored to. What is promised is told cell by cell (specs/Shown.antt): the slice shows the picture there.
 #![tactic(auto)]
 
-ghost use Rattle.std.specs.Prelude.{◌≡◌, ℕ, ◌+◌, ◌*◌, ◌-◌, ◌/◌, ◌^◌, ◌<◌, ◌≤◌, min, max, T, pos, nat_abs, length, get_or};
-ghost use Rattle.tables.specs.Tables.{cell_table};
+ghost use Rattle.std.specs.Prelude.{◌≡◌, ℕ, ◌+◌, ◌*◌, ◌-◌, ◌/◌, ◌^◌, ◌<◌, ◌≤◌, T, pos, nat_abs, length, get_or};
 ghost use Rattle.pyramid.specs.Plane.{Image, halved};
 ghost use Rattle.pyramid.specs.Slices.{sample_of};
 ghost use Rattle.pyramid.specs.Behind.{quad_of, block_list};
@@ -20,18 +19,6 @@ pub struct View {
     pub left: usize,
     pub tall: usize,
     pub wide: usize,
-}
-
-fn larger(a: usize, b: usize) -> usize
-    ensures { result ≡ max a b }
-{
-    if a < b { b } else { a }
-}
-
-fn smaller(a: usize, b: usize) -> usize
-    ensures { result ≡ min a b }
-{
-    if a < b { a } else { b }
 }
 
 // The block row that a row of the picture is in, and the block column of a column; d is the level less one.
@@ -96,11 +83,10 @@ fn store_column(
     requires by_index { (a : ℕ) → a < 16 → nat_abs (get_or values.now a (pos 0)) ≤ 2 ^ 33 }
     ensures { (A : Image) → values.now ≡ block_list A i (x / 4) → Kept v (rounded levels A) samples.old samples.new × ((y : ℕ) → y / 4 ≡ i → Shown v (rounded levels A) samples.new y x) }
 {
-    let end = smaller(i * 4 + 4, v.top + v.tall);
-    let mut y = larger(i * 4, v.top);
-    while y < end {
+    let begin = v.top.max(i * 4);
+    let end = (v.top + v.tall).min(i * 4 + 4);
+    for y in begin..end {
         store_cell(values[x % 4 * 4 + y % 4], v, y, x, levels, unit, samples);
-        y += 1;
     }
 }
 
@@ -119,15 +105,15 @@ fn store_part(
     requires by_index { (a : ℕ) → a < 16 → nat_abs (get_or values.now a (pos 0)) ≤ 2 ^ 33 }
     ensures { (A : Image) → values.now ≡ block_list A i j → Filled v (rounded levels A) 0 i j samples.old samples.new }
 {
-    let end = smaller(j * 4 + 4, v.left + v.wide);
-    let mut x = larger(j * 4, v.left);
-    while x < end {
+    let begin = v.left.max(j * 4);
+    let end = (v.left + v.wide).min(j * 4 + 4);
+    for x in begin..end {
         store_column(values, v, i, x, levels, unit, samples);
-        x += 1;
     }
 }
 
 // The samples of column x, in block row i of the first level, where the window has all four.
+// Kept: `store_column` would do, but a loop whose ends the window sets is not unrolled (docs/PERFORMANCE.md, "Steps on the way").
 fn store_four(
     values: &[i64; 16],
     v: View,
@@ -142,8 +128,7 @@ fn store_four(
     requires by_index { (a : ℕ) → a < 16 → nat_abs (get_or values.now a (pos 0)) ≤ 2 ^ 33 }
     ensures { (A : Image) → values.now ≡ block_list A i (x / 4) → Kept v (rounded levels A) samples.old samples.new × ((y : ℕ) → y / 4 ≡ i → Shown v (rounded levels A) samples.new y x) }
 {
-    let mut r: usize = 0;
-    while r < 4 {
+    for r in 0..4 {
         store_cell(
             values[x % 4 * 4 + r],
             v,
@@ -153,11 +138,11 @@ fn store_four(
             unit,
             samples,
         );
-        r += 1;
     }
 }
 
 // The samples of a block of the first level that the window has all of, as it has most blocks where it is large: four columns of four, whatever the window.
+// Kept: as `store_four`, apart from `store_part` for its speed.
 fn store_whole(
     values: &[i64; 16],
     v: View,
@@ -172,10 +157,8 @@ fn store_whole(
     requires by_index { (a : ℕ) → a < 16 → nat_abs (get_or values.now a (pos 0)) ≤ 2 ^ 33 }
     ensures { (A : Image) → values.now ≡ block_list A i j → Filled v (rounded levels A) 0 i j samples.old samples.new }
 {
-    let mut c: usize = 0;
-    while c < 4 {
+    for c in 0..4 {
         store_four(values, v, i, j * 4 + c, levels, unit, samples);
-        c += 1;
     }
 }
 
@@ -206,16 +189,15 @@ fn store_block(
 {
     if holds(v, i, j) {
         store_whole(values, v, i, j, levels, unit, samples);
-        return;
+    } else {
+        store_part(values, v, i, j, levels, unit, samples);
     }
-    store_part(values, v, i, j, levels, unit, samples);
 }
 
 // The samples of a block, as far as the window has them: none where it does not touch the window; those of its values at the first level; and those of its
 // four blocks below at any other.
 // Two wrong answers that the contract rules out: a block passed over that touches the window; and one block below left out.
 fn fill(
-    cells: &[u8; 1872],
     plane: &[i64],
     coverings: &[u8],
     v: View,
@@ -224,7 +206,6 @@ fn fill(
     unit: u64,
     samples: &mut [u16],
 )
-    requires cells_value { cells.now ≡ cell_table }
     requires restorable { Restorable k.levels k.height k.width coverings.now plane.now × Block k × (unit ≡ 4 ^ k.levels) }
     requires low_value { low ≡ quad_of (behind k k.level coverings.now plane.now) k.i k.j }
     requires inside { Inside v 512 512 × (length samples.old ≡ v.wide * v.tall) }
@@ -235,23 +216,20 @@ fn fill(
     }
     let results = blockwise::results(plane, k, low);
     let pieces = kernel::transform::by_labels(results);
-    let values = blockwise::values(cells, coverings, k, pieces);
+    let values = blockwise::values(coverings, k, pieces);
     if k.level == 1 {
         store_block(&values, v, k.i, k.j, k.levels, unit, samples);
         return;
     }
-    let mut q: usize = 0;
-    while q < 4 {
+    for q in 0..4 {
         let below = blockwise::child(k, q);
         let quad = blockwise::quarter(values, q);
-        fill(cells, plane, coverings, v, below, quad, unit, samples);
-        q += 1;
+        fill(plane, coverings, v, below, quad, unit, samples);
     }
 }
 
 // The samples of the blocks of block column j of the last level, as far as the window has them.
 fn fill_column(
-    cells: &[u8; 1872],
     height: usize,
     width: usize,
     levels: usize,
@@ -262,18 +240,16 @@ fn fill_column(
     unit: u64,
     samples: &mut [u16],
 )
-    requires cells_value { cells.now ≡ cell_table }
     requires restorable { Restorable levels height width coverings.now plane.now × Inside v height width × (length samples.old ≡ v.wide * v.tall) }
     requires j_bound { (j < halved (levels - 1) width / 4) × (unit ≡ 4 ^ levels) }
     ensures { Kept v (sample_at levels height width coverings.now plane.now) samples.old samples.new × ((y x : ℕ) → halved (levels - 1) (x / 4) ≡ j → Shown v (sample_at levels height width coverings.now plane.now) samples.new y x) }
 {
+    let first = block_of(v.top, levels - 1);
     let last = block_of(v.top + v.tall - 1, levels - 1);
-    let mut i = block_of(v.top, levels - 1);
-    while i <= last {
+    for i in first..last + 1 {
         let k = blockwise::first_node(levels, height, width, coverings.len(), i, j);
         let low = blockwise::last(plane, height, i, j);
-        fill(cells, plane, coverings, v, k, low, unit, samples);
-        i += 1;
+        fill(plane, coverings, v, k, low, unit, samples);
     }
 }
 
@@ -291,14 +267,10 @@ pub fn fill_window(
     requires inside { Inside v height width × (length samples.old ≡ v.wide * v.tall) }
     ensures { (length samples.new ≡ v.wide * v.tall) × ((y x : ℕ) → Shown v (sample_at levels height width coverings.now plane.now) samples.new y x) }
 {
-    let cells = tables::cells();
     let unit = synthesis::power(levels);
+    let first = block_of(v.left, levels - 1);
     let last = block_of(v.left + v.wide - 1, levels - 1);
-    let mut j = block_of(v.left, levels - 1);
-    while j <= last {
-        fill_column(
-            &cells, height, width, levels, plane, coverings, v, j, unit, samples,
-        );
-        j += 1;
+    for j in first..last + 1 {
+        fill_column(height, width, levels, plane, coverings, v, j, unit, samples);
     }
 }

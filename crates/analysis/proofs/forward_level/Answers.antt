@@ -1,83 +1,62 @@
 -- `analysis::forward_level` meets its contract: the walk over the blocks of proofs/Levelwise.antt. Assumes nothing.
-use mathlib.Core.Path.{refl, sym, ◌∙◌}
-use Prim.Native.Nat.{◌+◌, ◌<◌}
+use mathlib.Core.Path.{◌≡◌, refl, ap, ◌∙◌}
+use Prim.Native.Nat.{ℕ, ◌+◌, ◌*◌, ◌/◌, ◌<◌}
 use native.Mathlib.Omega.{arith}
 use lib.ListN.{length-set}
 use Rattle.terms.specs.Terms.{among, pick_terms}
 use Rattle.pyramid.specs.Plane.{blocks}
+use Rattle.integers.proofs.Index.{index_bound}
 use Rattle.analysis.proofs.Bandwise.{region_in, blocks_few}
-use Rattle.analysis.proofs.Levelwise.{walk_start, col_in, counts_small, walk_down, walk_across, walk_end}
+use Rattle.analysis.proofs.Levelwise.{walk_start, counts_small, walk_at, walk_next, walk_end}
 use Rattle.analysis.proofs.forward_level.Goals as goal
+use Rattle.analysis.proofs.forward_level.Goals.{In-loop-i}
 
-pub overflow_mul-count : goal.overflow_mul-count
-overflow_mul-count c = omega (arith, blocks_few c.requires.region.0)
+-- the block is one of the level's
+inside : (c : goal.In-loop-i) → c.loop-j.j * (c.args.tall / 4) + c.loop-i.i < blocks c.args.tall c.args.wide
+inside c = index_bound c.loop-j.j c.loop-i.i (c.args.wide / 4) (c.args.tall / 4) (omega arith) (omega arith)
 
-pub loop-k-init : goal.loop-k-init
-loop-k-init c = (refl, refl, refl, refl, walk_start (pick_terms (among c.args.slack c.args.list.now)) _ _ _ _ _ _ _ _ c.requires.region.4)
+pub loop-j-init : goal.loop-j-init
+loop-j-init c =
+    let e : 0 ≡ 0 * (c.args.tall / 4) = omega arith in
+    (refl, refl, walk_at e (walk_start (pick_terms (among c.args.slack c.args.list.now)) _ _ _ _ _ _ _ _ c.requires.4))
+
+pub loop-i-init : goal.loop-i-init
+loop-i-init c =
+    let inv = c.loop-j.invariant in
+    let n = c.loop-j.j * (c.args.tall / 4) in
+    let e : n ≡ n + 0 = omega arith in
+    (inv.0, inv.1, walk_at e inv.2)
 
 pub forward_block-covering-requires : goal.forward_block-covering-requires
 forward_block-covering-requires c =
-    let inv = c.loop-k.invariant in
-    let l : c.loop-k.k < blocks c.args.tall c.args.wide = omega arith in
-    record { placements_value = c.requires.placements_value; region = (region_in c.requires.region.0 inv.1, inv.4.stood.row l, col_in c.requires.region.0 _ _ _ _ _ _ inv.4.stood l, c.requires.region.2, c.requires.region.5, c.requires.region.6, c.requires.region.7) }
-
-pub overflow_add-coverings : goal.overflow_add-coverings
-overflow_add-coverings c = omega (arith, c.requires.region.1, c.well_formed)
-
-pub bounds-coverings-first : goal.bounds-coverings-first
-bounds-coverings-first c = omega (arith, c.requires.region.1)
+    (region_in c.requires.0 c.loop-i.invariant.1, omega arith, omega arith, c.requires.2, c.requires.5, c.requires.6, c.requires.7)
 
 pub chosen-usage-requires : goal.chosen-usage-requires
 chosen-usage-requires c =
-    let inv = c.loop-k.invariant in
+    let inv = c.loop-i.invariant in
     let m = c.forward_block-covering.ensures.number in
-    let k = c.loop-k.k in
-    (m, omega (arith, counts_small c.loop-k.coverings (c.args.first + k) c.forward_block-covering.result (omega (arith, inv.0, inv.4.stood.most, c.requires.region.1)) m.0 m.1 c.loop-k.usage.counts inv.4.counted, blocks_few c.requires.region.0, inv.4.stood.most, c.requires.region.3))
+    let k = c.loop-j.j * (c.args.tall / 4) + c.loop-i.i in
+    let l = inside (goal.at.chosen-usage-requires c).In-loop-i in
+    (m, omega (arith, counts_small c.loop-i.coverings (c.args.first + k) c.forward_block-covering.result (omega (arith, inv.0, l, c.requires.1)) m.0 m.1 c.loop-i.usage.counts inv.2.counted, blocks_few c.requires.0, l, c.requires.3))
 
-pub overflow_add-k : goal.overflow_add-k
-overflow_add-k c = omega (arith, blocks_few c.requires.region.0, c.loop-k.invariant.4.stood.most)
-
-pub overflow_add-i : goal.overflow_add-i
-overflow_add-i c =
-    let inv = c.loop-k.invariant in
-    let l : c.loop-k.k < blocks c.args.tall c.args.wide = omega arith in
-    omega (arith, inv.4.stood.row l, c.requires.region.0.inside, c.requires.region.0.low)
-
-pub overflow_add-j : goal.overflow_add-j
-overflow_add-j c =
-    let inv = c.loop-k.invariant in
-    let l : c.loop-k.k < blocks c.args.tall c.args.wide = omega arith in
-    omega (arith, col_in c.requires.region.0 _ _ _ _ _ _ inv.4.stood l, c.requires.region.0.narrow)
-
-pub loop-k-smaller-then-i-rows : goal.loop-k-smaller-then-i-rows
-loop-k-smaller-then-i-rows c = omega arith
-
-pub loop-k-preserved-then-i-rows : goal.loop-k-preserved-then-i-rows
-loop-k-preserved-then-i-rows c =
-    let inv = c.loop-k.invariant in
-    let l : c.loop-k.k < blocks c.args.tall c.args.wide = omega arith in (
+pub loop-i-preserved : goal.loop-i-preserved
+loop-i-preserved c =
+    let inv = c.loop-i.invariant in
+    let n = c.loop-j.j * (c.args.tall / 4) in
+    let e : n + c.loop-i.i + 1 ≡ n + (c.loop-i.i + 1) = omega arith in (
       simp length-set inv.0,
       c.forward_block-covering.auto.out ∙ inv.1,
-      inv.2,
-      inv.3,
-      walk_across c.requires.region.0 _ _ _ _ _ _ _ _ inv.4 l _ _ _ inv.1 (omega (arith, c.requires.region.1)) c.forward_block-covering.ensures c.chosen-usage.ensures (c.if-i-rows.true ∙ inv.2),
+      walk_at e (walk_next c.requires.0 _ _ _ _ _ _ c.loop-i.i c.loop-j.j inv.2 refl (omega arith) (omega arith) _ _ _ inv.1 (omega (arith, inv.0, inside (goal.at.loop-i-preserved c).In-loop-i, c.requires.1)) c.forward_block-covering.ensures c.chosen-usage.ensures),
     )
 
-pub loop-k-smaller : goal.loop-k-smaller
-loop-k-smaller c = omega arith
-
-pub loop-k-preserved : goal.loop-k-preserved
-loop-k-preserved c =
-    let inv = c.loop-k.invariant in
-    let l : c.loop-k.k < blocks c.args.tall c.args.wide = omega arith in (
-      simp length-set inv.0,
-      c.forward_block-covering.auto.out ∙ inv.1,
-      inv.2,
-      inv.3,
-      walk_down c.requires.region.0 _ _ _ _ _ _ _ _ inv.4 l _ _ _ inv.1 (omega (arith, c.requires.region.1)) c.forward_block-covering.ensures c.chosen-usage.ensures ((λ e. c.if-i-rows.false (e ∙ sym inv.2))),
-    )
+pub loop-j-preserved : goal.loop-j-preserved
+loop-j-preserved c =
+    let inv = c.loop-i.invariant in
+    let i : c.loop-i.i ≡ c.args.tall / 4 = omega arith in
+    let e : c.loop-j.j * (c.args.tall / 4) + c.loop-i.i ≡ (c.loop-j.j + 1) * (c.args.tall / 4) = omega arith in
+    (inv.0, inv.1, walk_at e inv.2)
 
 pub returns : goal.returns
 returns c =
-    let inv = c.loop-k.invariant in
-    walk_end c.requires.region.0 _ _ _ _ _ _ _ _ inv.4 (omega (arith, inv.4.stood.most))
+    let j : c.loop-j.j ≡ c.args.wide / 4 = omega arith in
+    walk_end c.requires.0 _ _ _ _ _ _ c.loop-j.invariant.2 (ap (λ (j : ℕ). j * (c.args.tall / 4)) j)

@@ -1,9 +1,9 @@
 -- `blockwise::results_of` meets its contract. Assumes nothing.
-use mathlib.Core.Path.{refl, sym, ap, ◌∙◌, subst}
+use mathlib.Core.Path.{sym, ap, ◌∙◌, subst}
 use Prim.Native.Nat.{◌+◌, ◌*◌, ◌/◌, ◌%◌, ◌<◌, ◌≤◌, ◌^◌}
 use native.Mathlib.Omega.{arith}
 use lib.IntN.{ℤ, pos, nat_abs, ◌*ℤ◌}
-use lib.ListN.{length, get_or, length-set}
+use lib.ListN.{length, get_or, length-set, length-append}
 use mir.Syntax.{w64}
 use Rattle.integers.proofs.Half.{half_store}
 use Rattle.integers.proofs.Signs.{kept}
@@ -14,7 +14,7 @@ use Rattle.grid.proofs.Near.{result_near}
 use Rattle.synthesis.specs.Synthesis.{counted}
 use Rattle.synthesis.proofs.Counted.{counted_high}
 use Rattle.blockwise.specs.Node.{results_over}
-use Rattle.blockwise.proofs.Merged.{over_length, over_high, over_start, over_end}
+use Rattle.blockwise.proofs.Merged.{over_length, over_high, over_first, over_start, over_end}
 use Rattle.blockwise.proofs.results_of.Goals as goal
 
 near : (c : goal.In-loop-k) → let l = c.loop-k in let a = c.args in
@@ -22,14 +22,10 @@ near : (c : goal.In-loop-k) → let l = c.loop-k in let a = c.args in
 near c = let l = c.loop-k in (result_near l.k c.args.height, l.invariant.2 (l.k / 4) (omega arith))
 
 pub loop-k-init : goal.loop-k-init
-unfolding results_over
-loop-k-init c = (omega arith, omega arith, c.requires.by_index, refl, refl, refl)
-
-pub offset_bounds-begin-k : goal.offset_bounds-begin-k
-offset_bounds-begin-k c = omega arith
-
-pub bounds-begin-k : goal.bounds-begin-k
-bounds-begin-k c = omega arith
+loop-k-init c =
+    let a = c.args in
+    let f = c.copy_from_slice.ensures in
+    (omega arith, omega arith, c.requires.by_index, simp length-append (omega (arith, f.len)), simp length-append (omega (arith, f.len)), over_first a.weight (band_place a.height a.begin) a.low a.plane.now c.copy_from_slice.new.self _ f.len)
 
 pub overflow_mul-place : goal.overflow_mul-place
 overflow_mul-place c = omega (arith, near c)
@@ -55,15 +51,6 @@ count-requires c =
           (c.requires.weight_bound.1 k (omega arith)),
     )
 
-pub offset_bounds-v-k : goal.offset_bounds-v-k
-offset_bounds-v-k c = omega arith
-
-pub bounds-v-k : goal.bounds-v-k
-bounds-v-k c = omega arith
-
-pub overflow_add-k : goal.overflow_add-k
-overflow_add-k c = omega arith
-
 pub loop-k-preserved : goal.loop-k-preserved
 loop-k-preserved c =
     let inv = c.loop-k.invariant in
@@ -79,7 +66,7 @@ loop-k-preserved c =
       simp length-set (omega arith),
       half_store (results_over a.weight g _ a.plane.now) _ k (pos 0) inv.5
           (read w64 (c.count.ensures ∙ ap (counted a.weight k) (kept c.count-arg-1.given) ∙ counted_high a.weight k z (omega arith)) (sfits64 (pos a.weight *ℤ z) (omega arith)) ∙ sym (over_high a.weight g _ a.plane.now k (omega arith) (omega arith)))
-          (over_length a.weight g _ a.plane.now) (omega arith),
+          (over_length a.weight g _ a.plane.now ∙ sym inv.3) (omega arith),
     )
 
 pub returns : goal.returns
@@ -88,4 +75,4 @@ returns c =
     let a = c.args in
     let g = band_place a.height a.begin in
     over_end a.weight g a.low a.plane.now _ c.loop-k.k inv.5 inv.3 (omega arith)
-    (over_start a.weight g a.low a.plane.now _ c.v-1.given c.v-2-1.given c.v-3-1.given c.v-4-1.given)
+    (over_start a.weight g a.low a.plane.now c.copy_from_slice.new.self _ c.copy_from_slice.ensures.after c.copy_from_slice.ensures.len)

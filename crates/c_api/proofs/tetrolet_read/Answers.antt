@@ -3,8 +3,8 @@ use Rattle.sheet.specs.Read.{ReadAnswered}
 use Rattle.c_api.proofs.Told.{found, unfound}
 use Rattle.c_api.proofs.tetrolet_read.Goals as goal
 
-pub returns-in-Sheet : goal.returns-in-Sheet
-returns-in-Sheet c = found (ReadAnswered _ _ _ _ _) _ c.read-answer.ensures _ _ _ c.in-Sheet.is
+pub returns-in-Ok : goal.returns-in-Ok
+returns-in-Ok c = found (ReadAnswered _ _ _ _ _) _ c.read-answer.ensures _ c.in-Ok.is
 
-pub returns-in-Refused : goal.returns-in-Refused
-returns-in-Refused c = unfound (ReadAnswered _ _ _ _ _) _ c.read-answer.ensures _ _ _ _ _ c.in-Refused.is c.number.ensures
+pub returns-in-Err : goal.returns-in-Err
+returns-in-Err c = unfound (ReadAnswered _ _ _ _ _) _ c.read-answer.ensures _ _ _ _ _ c.in-Err.is c.from.ensures

@@ -16,8 +16,8 @@ returns-then-list-lt117 c = c.choose_listed.ensures
 pub returns-then-slack-eq0 : goal.returns-then-slack-eq0
 returns-then-slack-eq0 c =
     let all : (let x = c.args in all_numbers ≡ x.list.now) = let l = c.args.list.now in
-    let e : length l ≡ 117 = omega (arith, short l c.requires.4) in
-    sym ((full l c.requires.4).0 e) in
+    let e : length l ≡ 117 = omega (arith, short l c.requires.2) in
+    sym ((full l c.requires.2).0 e) in
     let x = c.args in
     let z : 0 ≡ x.slack = omega arith in
     (c.choose_least.ensures.0, λ earlier e. c.choose_least.ensures.1 earlier e ∙ sym (without earlier (at x.v)) ∙ λ i. pick_terms (among (z i) (all i)) earlier (at x.v))
@@ -25,7 +25,7 @@ returns-then-slack-eq0 c =
 pub returns : goal.returns
 returns c =
     let all : (let x = c.args in all_numbers ≡ x.list.now) = let l = c.args.list.now in
-    let e : length l ≡ 117 = omega (arith, short l c.requires.4) in
-    sym ((full l c.requires.4).0 e) in
+    let e : length l ≡ 117 = omega (arith, short l c.requires.2) in
+    sym ((full l c.requires.2).0 e) in
     let x = c.args in
     (c.choose_near.ensures.0, λ earlier e. c.choose_near.ensures.1 earlier e ∙ ap (λ (l : List ℕ). pick_terms (among x.slack l) earlier (at x.v)) all)

@@ -13,15 +13,12 @@ use Rattle.coder.specs.Entries.{decompose_refusal}
 use Rattle.coder.proofs.Gates.{truth, small_samples, refuses, picture_past}
 use Rattle.coder.proofs.decompose.Goals as goal
 
-pub returns-in-Refused : goal.returns-in-Refused
-returns-in-Refused c = refuses _ _ _ _ _ _ _ c.in-Refused.r (front_refused c.in-Refused.r 0 c.in-Refused.is (c.decompose_checks-found.ensures 0))
-
 pub every_covering-list-requires : goal.every_covering-list-requires
 every_covering-list-requires c = tt
 
 pub decompose_all-requires : goal.decompose_all-requires
 decompose_all-requires c =
-    let accepted : let a = c.args in 0 ≡ decompose_refusal a.height a.width a.levels a.samples.now a.plane.now a.coverings.now a.scratch.now = front_passed 0 c.in_default.is (c.decompose_checks-found.ensures 0) in
+    let accepted : let a = c.args in 0 ≡ decompose_refusal a.height a.width a.levels a.samples.now a.plane.now a.coverings.now a.scratch.now = front_passed 0 c.in_ok-decompose_checks.was (c.decompose_checks.ensures 0) in
     let a = c.args in
     let z = (picture_past a.height a.width a.levels a.samples.now a.plane.now a.coverings.now a.scratch.now accepted).0 in
     let s = sides_are a.height a.width (truth z.sided) in
@@ -29,7 +26,7 @@ decompose_all-requires c =
 
 pub returns : goal.returns
 returns c =
-    let accepted : let a = c.args in 0 ≡ decompose_refusal a.height a.width a.levels a.samples.now a.plane.now a.coverings.now a.scratch.now = front_passed 0 c.in_default.is (c.decompose_checks-found.ensures 0) in
+    let accepted : let a = c.args in 0 ≡ decompose_refusal a.height a.width a.levels a.samples.now a.plane.now a.coverings.now a.scratch.now = front_passed 0 c.in_ok-decompose_checks.was (c.decompose_checks.ensures 0) in
     let e = c.decompose_all.ensures in
     let a = c.args in
     let all = c.every_covering-list.ensures in

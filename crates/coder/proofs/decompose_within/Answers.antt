@@ -11,15 +11,12 @@ use Rattle.coder.specs.Entries.{within_refusal}
 use Rattle.coder.proofs.Gates.{truth, small_samples, refuses_within, tolerance_past}
 use Rattle.coder.proofs.decompose_within.Goals as goal
 
-pub returns-in-Refused : goal.returns-in-Refused
-returns-in-Refused c = refuses_within _ _ _ _ _ _ _ _ c.in-Refused.r (front_refused c.in-Refused.r 0 c.in-Refused.is (c.within_checks-found.ensures 0))
-
 pub every_covering-list-requires : goal.every_covering-list-requires
 every_covering-list-requires c = tt
 
 pub decompose_all-requires : goal.decompose_all-requires
 decompose_all-requires c =
-    let accepted : let a = c.args in 0 ≡ within_refusal a.height a.width a.levels a.tolerance a.samples.now a.plane.now a.coverings.now a.scratch.now = front_passed 0 c.in_default.is (c.within_checks-found.ensures 0) in
+    let accepted : let a = c.args in 0 ≡ within_refusal a.height a.width a.levels a.tolerance a.samples.now a.plane.now a.coverings.now a.scratch.now = front_passed 0 c.in_ok-within_checks.was (c.within_checks.ensures 0) in
     let a = c.args in
     let y = tolerance_past a.height a.width a.levels a.tolerance a.samples.now a.plane.now a.coverings.now a.scratch.now accepted in
     let z = y.0 in
@@ -28,7 +25,7 @@ decompose_all-requires c =
 
 pub returns : goal.returns
 returns c =
-    let accepted : let a = c.args in 0 ≡ within_refusal a.height a.width a.levels a.tolerance a.samples.now a.plane.now a.coverings.now a.scratch.now = front_passed 0 c.in_default.is (c.within_checks-found.ensures 0) in
+    let accepted : let a = c.args in 0 ≡ within_refusal a.height a.width a.levels a.tolerance a.samples.now a.plane.now a.coverings.now a.scratch.now = front_passed 0 c.in_ok-within_checks.was (c.within_checks.ensures 0) in
     let e = c.decompose_all.ensures in
     let all = c.every_covering-list.ensures in
     let a = c.args in

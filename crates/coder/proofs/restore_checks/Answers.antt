@@ -12,53 +12,44 @@ use Rattle.pyramid.specs.Slices.{image_of}
 use Rattle.coder.specs.Entries.{restorable_refusal}
 use Rattle.coder.proofs.Gates.{Framed, frame_past}
 use Rattle.coder.proofs.restore_checks.Goals as goal
+use Rattle.coder.proofs.restore_checks.Goals.{In_ok-frame_checks}
 
-pub frame_checks-framed-requires : goal.frame_checks-framed-requires
-frame_checks-framed-requires c = tt
+behind : (c : goal.In_ok-frame_checks) → (rest : ℕ) → let a = c.args in refuse_if (not (every is_number a.coverings.now)) 5 (refuse_if (not (in_range a.levels a.height a.width (image_of a.height a.plane.now))) 6 rest) ≡ restorable_refusal a.height a.width a.levels a.plane.now a.coverings.now a.numerators.now a.samples.now a.scratch.now rest
+behind c = λ rest. front_passed _ c.in_ok-frame_checks.was (c.frame_checks.ensures _)
 
-pub returns-in-Refused : goal.returns-in-Refused
-returns-in-Refused c = λ rest. front_still c.in-Refused.r _ rest c.in-Refused.is (c.frame_checks-framed.ensures _)
+framed : (c : goal.In_ok-frame_checks) → let a = c.args in Framed a.height a.width a.levels a.plane.now a.coverings.now a.numerators.now a.samples.now a.scratch.now
+framed c = (frame_past _ _ _ _ _ _ _ _ (front_passed 0 c.in_ok-frame_checks.was (c.frame_checks.ensures 0))).0
+
+pub frame_checks-requires : goal.frame_checks-requires
+frame_checks-requires c = tt
 
 pub all_numbers-requires : goal.all_numbers-requires
 all_numbers-requires c = tt
 
 pub returns-then-not-all_numbers : goal.returns-then-not-all_numbers
 returns-then-not-all_numbers c =
-    let behind : (rest : ℕ) → let a = c.args in
-    refuse_if (not (every is_number a.coverings.now)) 5 (refuse_if (not (in_range a.levels a.height a.width (image_of a.height a.plane.now))) 6 rest)
-    ≡ restorable_refusal a.height a.width a.levels a.plane.now a.coverings.now a.numerators.now a.samples.now a.scratch.now rest = λ rest. front_passed _ c.in_default.is (c.frame_checks-framed.ensures _) in
-    λ rest. rw (← behind rest, ← c.all_numbers.ensures, c.if-not-all_numbers.true)
+    λ rest. rw (← (behind (goal.at.returns-then-not-all_numbers c).In_ok-frame_checks) rest, ← c.all_numbers.ensures, c.if-not-all_numbers.true)
 
 pub overflow_cast-height : goal.overflow_cast-height
 overflow_cast-height c =
-    let framed : let a = c.args in Framed a.height a.width a.levels a.plane.now a.coverings.now a.numerators.now a.samples.now a.scratch.now = (frame_past _ _ _ _ _ _ _ _ (front_passed 0 c.in_default.is (c.frame_checks-framed.ensures 0))).0 in
-    omega (arith, framed.sizes.tall)
+    omega (arith, (framed (goal.at.overflow_cast-height c).In_ok-frame_checks).sizes.tall)
 
 pub overflow_cast-width : goal.overflow_cast-width
 overflow_cast-width c =
-    let framed : let a = c.args in Framed a.height a.width a.levels a.plane.now a.coverings.now a.numerators.now a.samples.now a.scratch.now = (frame_past _ _ _ _ _ _ _ _ (front_passed 0 c.in_default.is (c.frame_checks-framed.ensures 0))).0 in
-    omega (arith, framed.sizes.wide)
+    omega (arith, (framed (goal.at.overflow_cast-width c).In_ok-frame_checks).sizes.wide)
 
 pub overflow_cast-levels : goal.overflow_cast-levels
 overflow_cast-levels c =
-    let framed : let a = c.args in Framed a.height a.width a.levels a.plane.now a.coverings.now a.numerators.now a.samples.now a.scratch.now = (frame_past _ _ _ _ _ _ _ _ (front_passed 0 c.in_default.is (c.frame_checks-framed.ensures 0))).0 in
-    omega (arith, framed.sizes.few)
+    omega (arith, (framed (goal.at.overflow_cast-levels c).In_ok-frame_checks).sizes.few)
 
 pub in_range-requires : goal.in_range-requires
 in_range-requires c =
-    let framed : let a = c.args in Framed a.height a.width a.levels a.plane.now a.coverings.now a.numerators.now a.samples.now a.scratch.now = (frame_past _ _ _ _ _ _ _ _ (front_passed 0 c.in_default.is (c.frame_checks-framed.ensures 0))).0 in
-    let f = framed in record { width_value = (f.sizes.sided, f.sizes.deep); plane_len = f.plane_long }
+    let f = (framed (goal.at.in_range-requires c).In_ok-frame_checks) in record { width_value = (f.sizes.sided, f.sizes.deep); plane_len = f.plane_long }
 
 pub returns-then-not-in_range : goal.returns-then-not-in_range
 returns-then-not-in_range c =
-    let behind : (rest : ℕ) → let a = c.args in
-    refuse_if (not (every is_number a.coverings.now)) 5 (refuse_if (not (in_range a.levels a.height a.width (image_of a.height a.plane.now))) 6 rest)
-    ≡ restorable_refusal a.height a.width a.levels a.plane.now a.coverings.now a.numerators.now a.samples.now a.scratch.now rest = λ rest. front_passed _ c.in_default.is (c.frame_checks-framed.ensures _) in
-    λ rest. rw (← behind rest, ← c.all_numbers.ensures, c.if-not-all_numbers.false, ← c.in_range.ensures, c.if-not-in_range.true)
+    λ rest. rw (← (behind (goal.at.returns-then-not-in_range c).In_ok-frame_checks) rest, ← c.all_numbers.ensures, c.if-not-all_numbers.false, ← c.in_range.ensures, c.if-not-in_range.true)
 
 pub returns : goal.returns
 returns c =
-    let behind : (rest : ℕ) → let a = c.args in
-    refuse_if (not (every is_number a.coverings.now)) 5 (refuse_if (not (in_range a.levels a.height a.width (image_of a.height a.plane.now))) 6 rest)
-    ≡ restorable_refusal a.height a.width a.levels a.plane.now a.coverings.now a.numerators.now a.samples.now a.scratch.now rest = λ rest. front_passed _ c.in_default.is (c.frame_checks-framed.ensures _) in
-    λ rest. rw (← behind rest, ← c.all_numbers.ensures, c.if-not-all_numbers.false, ← c.in_range.ensures, c.if-not-in_range.false)
+    λ rest. rw (← (behind (goal.at.returns c).In_ok-frame_checks) rest, ← c.all_numbers.ensures, c.if-not-all_numbers.false, ← c.in_range.ensures, c.if-not-in_range.false)

@@ -10,10 +10,10 @@ use Rattle.costing.proofs.placed_cell.Goals as goal
 
 pub overflow_cast-result : goal.overflow_cast-result
 overflow_cast-result c =
-    let is : get_or c.args.placements.now c.args.k 0 ≡ get_or placement_table c.args.k 0 = ap (λ (t : List ℕ). get_or t c.args.k 0) c.requires.0 in
-    omega (arith, is, placed_below c.args.k c.requires.1)
+    let is : get_or c.placements.result.now c.args.k 0 ≡ get_or placement_table c.args.k 0 = ap (λ (t : List ℕ). get_or t c.args.k 0) c.placements.ensures in
+    omega (arith, is, placed_below c.args.k c.requires)
 
 pub returns : goal.returns
 returns c =
-    let is : get_or c.args.placements.now c.args.k 0 ≡ get_or placement_table c.args.k 0 = ap (λ (t : List ℕ). get_or t c.args.k 0) c.requires.0 in
-    (is, omega (arith, is, placed_below c.args.k c.requires.1))
+    let is : get_or c.placements.result.now c.args.k 0 ≡ get_or placement_table c.args.k 0 = ap (λ (t : List ℕ). get_or t c.args.k 0) c.placements.ensures in
+    (is, omega (arith, is, placed_below c.args.k c.requires))

@@ -12,10 +12,10 @@ use Rattle.costing.proofs.placement_cost.Goals as goal
 
 pub spread_of-requires : goal.spread_of-requires
 spread_of-requires c = (
-  small_within c.args.v.now c.requires.2 _ c.placed_cell-a.ensures.1,
-  small_within c.args.v.now c.requires.2 _ c.placed_cell-b.ensures.1,
-  small_within c.args.v.now c.requires.2 _ c.placed_cell-c.ensures.1,
-  small_within c.args.v.now c.requires.2 _ c.placed_cell-d.ensures.1,
+  small_within c.args.v.now c.requires.1 _ c.placed_cell-a.ensures.1,
+  small_within c.args.v.now c.requires.1 _ c.placed_cell-b.ensures.1,
+  small_within c.args.v.now c.requires.1 _ c.placed_cell-c.ensures.1,
+  small_within c.args.v.now c.requires.1 _ c.placed_cell-d.ensures.1,
 )
 
 pub returns : goal.returns
@@ -26,7 +26,7 @@ returns c =
     c.spread_of.ensures
     ∙ spread_cong _ (placed v k)
     (four_is (placed v k)
-    (kept_within v c.requires.2 _ c.placed_cell-a.ensures.1 ∙ ap (at v) (c.placed_cell-a.ensures.0 ∙ ap (λ (j : ℕ). get_or placement_table j 0) first))
-    (kept_within v c.requires.2 _ c.placed_cell-b.ensures.1 ∙ ap (at v) c.placed_cell-b.ensures.0)
-    (kept_within v c.requires.2 _ c.placed_cell-c.ensures.1 ∙ ap (at v) c.placed_cell-c.ensures.0)
-    (kept_within v c.requires.2 _ c.placed_cell-d.ensures.1 ∙ ap (at v) c.placed_cell-d.ensures.0))
+    (kept_within v c.requires.1 _ c.placed_cell-a.ensures.1 ∙ ap (at v) (c.placed_cell-a.ensures.0 ∙ ap (λ (j : ℕ). get_or placement_table j 0) first))
+    (kept_within v c.requires.1 _ c.placed_cell-b.ensures.1 ∙ ap (at v) c.placed_cell-b.ensures.0)
+    (kept_within v c.requires.1 _ c.placed_cell-c.ensures.1 ∙ ap (at v) c.placed_cell-c.ensures.0)
+    (kept_within v c.requires.1 _ c.placed_cell-d.ensures.1 ∙ ap (at v) c.placed_cell-d.ensures.0))

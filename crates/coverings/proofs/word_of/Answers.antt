@@ -13,7 +13,7 @@ pub returns-then-covering-gt117 : goal.returns-then-covering-gt117
 returns-then-covering-gt117 c = no_covering _ _ (omega arith) (λ n. omega arith)
 
 pub copy_word-requires : goal.copy_word-requires
-copy_word-requires c = (c.all_words-words.ensures, (omega arith, omega arith), omega arith)
+copy_word-requires c = ((omega arith, omega arith), omega arith)
 
 pub returns : goal.returns
 returns c = word_given _ _ (omega arith) (omega arith, omega arith) _ c.copy_word.ensures

@@ -1,7 +1,5 @@
 -- `cutting::print_rows` meets its contract. Assumes nothing.
-use native.Mathlib.Omega.{arith}
 use lib.ListN.{drop}
-use Rattle.refusals.proofs.After.{answer_le}
 use Rattle.text.specs.Text.{parse}
 use Rattle.cutter_text.specs.Forms.{samples_form}
 use Rattle.cutting.proofs.Prints.{printed, no_rows, some_rows}
@@ -15,4 +13,4 @@ returns-in_default c =
 pub returns : goal.returns
 returns c =
     let a = c.args in
-    printed (some_rows a.height a.width a.levels a.quota (parse (samples_form a.height a.width) (drop a.at a.text.now)) c.read_samples-found.new.samples c.read_samples-found.result c.in-Done.is c.read_samples-found.ensures) c.print_picture.ensures
+    printed (some_rows a.height a.width a.levels a.quota (parse (samples_form a.height a.width) (drop a.at a.text.now)) c.read_samples-found.new.samples c.read_samples-found.result c.in-Ok.is c.read_samples-found.ensures) c.print_picture.ensures

@@ -1,7 +1,5 @@
 -- `generator::image_checks` meets its contract: each return by what the tests before it found. Assumes nothing.
-use Rattle.std.proofs.Common.{◌≡◌, true, sym, ◌∙◌, mul-le-mul, arith, eq-eqb, ne_eqb}
-use borrow.Author.Tests.{not-false}
-use Rattle.pyramid.specs.Sides.{is_sides}
+use Rattle.std.proofs.Common.{sym, ◌∙◌, mul-le-mul, arith, eq-eqb, ne_eqb}
 use Rattle.places.proofs.Sides.{sides_small}
 use Rattle.generator.proofs.image_checks.Goals as goal
 
@@ -13,17 +11,11 @@ returns-then-not-are_sides c = rw (← c.are_sides.ensures, c.if-not-are_sides.t
 
 pub overflow_mul-width : goal.overflow_mul-width
 overflow_mul-width c =
-    let sided : let a = c.args in is_sides a.height a.width ≡ true = sym c.are_sides.ensures ∙ c.if-not-are_sides.false in
-    let a = c.args in
-    let l = sides_small a.height a.width sided in
+    let l = sides_small c.args.height c.args.width (sym c.are_sides.ensures ∙ c.if-not-are_sides.false) in
     omega (arith, mul-le-mul l.1 l.0)
 
 pub returns-then-samples-width : goal.returns-then-samples-width
-returns-then-samples-width c =
-    let sided : let a = c.args in is_sides a.height a.width ≡ true = sym c.are_sides.ensures ∙ c.if-not-are_sides.false in
-    simp (sided, ne_eqb _ _ c.if-samples-width.true)
+returns-then-samples-width c = simp (← c.are_sides.ensures, c.if-not-are_sides.false, ne_eqb _ _ c.if-samples-width.true)
 
 pub returns : goal.returns
-returns c =
-    let sided : let a = c.args in is_sides a.height a.width ≡ true = sym c.are_sides.ensures ∙ c.if-not-are_sides.false in
-    simp (sided, eq-eqb _ _ c.if-samples-width.false)
+returns c = simp (← c.are_sides.ensures, c.if-not-are_sides.false, eq-eqb _ _ c.if-samples-width.false)

@@ -21,7 +21,7 @@ cells_of-v-requires c = cells_inside c.requires.region.0 c.args.i c.args.j c.req
 
 pub forward-results-requires : goal.forward-results-requires
 forward-results-requires c =
-    (c.requires.cells_value.0, c.requires.cells_value.1, subst⁻¹ (Within (2 ^ 40)) c.cells_of-v.ensures (values_small c.requires.region.0 c.args.i c.args.j c.requires.region.1 c.requires.region.2 c.args.image.now c.requires.region.3))
+    (c.requires.number, subst⁻¹ (Within (2 ^ 40)) c.cells_of-v.ensures (values_small c.requires.region.0 c.args.i c.args.j c.requires.region.1 c.requires.region.2 c.args.image.now c.requires.region.3))
 
 pub put_results-requires : goal.put_results-requires
 put_results-requires c =

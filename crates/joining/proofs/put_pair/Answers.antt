@@ -1,7 +1,5 @@
 -- `joining::put_pair` meets its contract. Assumes nothing.
-use native.Mathlib.Omega.{arith}
-use lib.ListN.{length}
-use Rattle.joining.proofs.Pairs.{from_below, to_below, asks_left, asks_right, mid_long, paired}
+use Rattle.joining.proofs.Pairs.{paired}
 use Rattle.joining.proofs.put_pair.Goals as goal
 
 pub returns : goal.returns

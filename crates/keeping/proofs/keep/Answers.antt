@@ -1,21 +1,18 @@
 -- `keeping::keep` meets its contract: its checks, then the work. Assumes nothing.
 use mathlib.Core.Path.{◌≡◌}
 use native.Mathlib.Omega.{arith}
-use Rattle.refusals.proofs.After.{refused_by, passed_by}
+use Rattle.refusals.proofs.After.{passed_by}
 use Rattle.sifting.specs.Sifting.{Ready}
 use Rattle.keeping.specs.Entries.{keep_refusal}
 use Rattle.keeping.proofs.Checks.{sized, refuses, ready, keeps}
 use Rattle.keeping.proofs.keep.Goals as goal
-use Rattle.keeping.proofs.keep.Goals.{In_default}
+use Rattle.keeping.proofs.keep.Goals.{In_ok-keep_checks}
 
-accepted : (c : goal.In_default) → let a = c.args in 0 ≡ keep_refusal a.height a.width a.levels a.plane.now a.quota
-accepted c = passed_by c.in_default.is c.keep_checks-found.ensures
+accepted : (c : goal.In_ok-keep_checks) → let a = c.args in 0 ≡ keep_refusal a.height a.width a.levels a.plane.now a.quota
+accepted c = passed_by c.in_ok-keep_checks.was c.keep_checks.ensures
 
-passed : (c : goal.In_default) → let a = c.args in Ready a.height a.width a.levels a.plane.now
+passed : (c : goal.In_ok-keep_checks) → let a = c.args in Ready a.height a.width a.levels a.plane.now
 passed c = let a = c.args in ready a.height a.width a.levels a.plane.now a.quota (accepted c)
-
-pub returns-in-Refused : goal.returns-in-Refused
-returns-in-Refused c = refuses _ _ _ _ _ c.in-Refused.r (refused_by c.in-Refused.r c.in-Refused.is c.keep_checks-found.ensures)
 
 pub overflow_cast-h : goal.overflow_cast-h
 overflow_cast-h c = omega (arith, (sized (passed c)).tall)
@@ -33,9 +30,9 @@ pub overflow_sub-quota : goal.overflow_sub-quota
 overflow_sub-quota c = c.limit_of-limit.ensures.few
 
 pub sift-requires : goal.sift-requires
-sift-requires c = passed (goal.at.sift-requires c).In_default
+sift-requires c = passed (goal.at.sift-requires c).In_ok-keep_checks
 
 pub returns : goal.returns
 returns c =
     let l = c.limit_of-limit in
-    keeps _ _ _ _ _ (accepted (goal.at.returns c).In_default) _ l.result.base l.result.over c.sift.result l.ensures c.sift.ensures
+    keeps _ _ _ _ _ (accepted (goal.at.returns c).In_ok-keep_checks) _ l.result.base l.result.over c.sift.result l.ensures c.sift.ensures

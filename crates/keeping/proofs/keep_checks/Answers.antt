@@ -9,11 +9,8 @@ use Rattle.sifting.specs.Sifting.{Ready}
 use Rattle.keeping.proofs.Checks.{sized, front, behind}
 use Rattle.keeping.proofs.keep_checks.Goals as goal
 
-ready : (c : goal.In_default) → let a = c.args in Ready a.height a.width a.levels a.plane.now
-ready c = (front _ _ _ _ 0 (front_passed 0 c.in_default.is (c.plane_checks-front.ensures 0))).0
-
-pub returns-in-Refused : goal.returns-in-Refused
-returns-in-Refused c = front_refused c.in-Refused.r _ c.in-Refused.is (c.plane_checks-front.ensures _)
+ready : (c : goal.In_ok-plane_checks) → let a = c.args in Ready a.height a.width a.levels a.plane.now
+ready c = (front _ _ _ _ 0 (front_passed 0 c.in_ok-plane_checks.was (c.plane_checks.ensures 0))).0
 
 pub overflow_cast-height : goal.overflow_cast-height
 overflow_cast-height c = omega (arith, (sized (ready c)).tall)
@@ -30,11 +27,11 @@ most_entries-requires c = ((ready c).sided, (ready c).deep)
 pub returns-then-most_entries-quota : goal.returns-then-most_entries-quota
 returns-then-most_entries-quota c =
     let a = c.args in
-    behind a.height a.width a.levels a.plane.now c.in_default.is c.plane_checks-front.ensures 7 (ltb (quota_limit a.height a.width a.levels) a.quota) true
+    behind a.height a.width a.levels a.plane.now c.in_ok-plane_checks.was c.plane_checks.ensures 7 (ltb (quota_limit a.height a.width a.levels) a.quota) true
     (lt-ltb (quota_limit a.height a.width a.levels) a.quota (omega (arith, c.most_entries.ensures.0, c.if-most_entries-quota.true)))
 
 pub returns : goal.returns
 returns c =
     let a = c.args in
-    behind a.height a.width a.levels a.plane.now c.in_default.is c.plane_checks-front.ensures 7 (ltb (quota_limit a.height a.width a.levels) a.quota) false
+    behind a.height a.width a.levels a.plane.now c.in_ok-plane_checks.was c.plane_checks.ensures 7 (ltb (quota_limit a.height a.width a.levels) a.quota) false
     (le-ltb (quota_limit a.height a.width a.levels) a.quota (omega (arith, c.most_entries.ensures.0, c.if-most_entries-quota.false)))

@@ -7,20 +7,17 @@ use Rattle.refusals.proofs.After.{front_refused}
 use Rattle.keeping.proofs.Checks.{behind}
 use Rattle.keeping.proofs.threshold_checks.Goals as goal
 
-pub returns-in-Refused : goal.returns-in-Refused
-returns-in-Refused c = front_refused c.in-Refused.r _ c.in-Refused.is (c.plane_checks-front.ensures _)
-
 pub largest_threshold-requires : goal.largest_threshold-requires
 largest_threshold-requires c = tt
 
 pub returns-then-largest_threshold-limit : goal.returns-then-largest_threshold-limit
 returns-then-largest_threshold-limit c =
     let a = c.args in
-    behind a.height a.width a.levels a.plane.now c.in_default.is c.plane_checks-front.ensures 8 (ltb 1000000 a.limit) true
+    behind a.height a.width a.levels a.plane.now c.in_ok-plane_checks.was c.plane_checks.ensures 8 (ltb 1000000 a.limit) true
     (lt-ltb 1000000 a.limit (omega (arith, c.largest_threshold.ensures.0, c.if-largest_threshold-limit.true)))
 
 pub returns : goal.returns
 returns c =
     let a = c.args in
-    behind a.height a.width a.levels a.plane.now c.in_default.is c.plane_checks-front.ensures 8 (ltb 1000000 a.limit) false
+    behind a.height a.width a.levels a.plane.now c.in_ok-plane_checks.was c.plane_checks.ensures 8 (ltb 1000000 a.limit) false
     (le-ltb 1000000 a.limit (omega (arith, c.largest_threshold.ensures.0, c.if-largest_threshold-limit.false)))

@@ -1,30 +1,18 @@
--- `listing::all_listed` meets its contract. The loop's invariant: each covering is in the list where each that is left is. Assumes nothing.
-use mathlib.Core.Path.{refl, sym, ◌∙◌}
-use Prim.Native.Nat.{◌-◌}
-use native.Mathlib.Omega.{arith}
-use borrow.Author.Tests.{not-true, not-false}
-use Rattle.integers.specs.Lists.{every}
-use Rattle.integers.proofs.Tests.{every_next, every_stop, every_end}
+-- `listing::all_listed` meets its contract: the marks tell what the list holds. Assumes nothing.
+use Rattle.std.proofs.Common.{◌≡◌, false, get_or, rules, arith, ◌∙◌}
+use borrow.Author.Tests.{tests}
+use Rattle.std.proofs.lemmas.Iterator.{YieldsList-from_slice}
+use Rattle.std.proofs.lemmas.Iterator.Search.{all_from_yields_List}
+use Rattle.integers.specs.Lists.{one_of}
+use Rattle.coder.proofs.Told.{every_is}
+use Rattle.listing.proofs.Marks.{marks_tell}
 use Rattle.listing.proofs.all_listed.Goals as goal
 
-pub loop-i-init : goal.loop-i-init
-loop-i-init c = (omega arith, refl)
-
-pub overflow_cast-n : goal.overflow_cast-n
-overflow_cast-n c = omega (arith, c.type_inv.coverings c.loop-i.i)
-
-pub bounds-marks-n : goal.bounds-marks-n
-bounds-marks-n c = omega (arith, c.type_inv.coverings c.loop-i.i)
-
-pub returns-then-not-marks-n : goal.returns-then-not-marks-n
-returns-then-not-marks-n c =
-    let i = c.loop-i.i in
-    sym (every_stop _ c.args.coverings.now 0 i (omega arith) (sym (c.marks_of-marks.ensures.1 _ (omega (arith, c.type_inv.coverings i))) ∙ c.if-not-marks-n.true)) ∙ c.loop-i.invariant.1
-
-pub loop-i-preserved : goal.loop-i-preserved
-loop-i-preserved c =
-    let i = c.loop-i.i in
-    (omega arith, sym (every_next _ c.args.coverings.now 0 i (omega arith) (sym (c.marks_of-marks.ensures.1 _ (omega (arith, c.type_inv.coverings i))) ∙ c.if-not-marks-n.false)) ∙ c.loop-i.invariant.1)
-
 pub returns : goal.returns
-returns c = sym (every_end _ _ c.loop-i.i (omega arith)) ∙ c.loop-i.invariant.1
+returns c =
+    let told = marks_tell c.args.list.now c.marks_of-marks.result c.marks_of-marks.ensures (λ k h. omega (arith, c.type_inv.list k)) in
+    rw every_is
+    (all_from_yields_List (one_of c.args.list.now) _ _ _ c.all.ensures.ran (YieldsList-from_slice c.args.coverings.now (cc))
+    (λ x b q k.
+    let z : (q ≡ _) × (b ≡ get_or c.marks_of-marks.result x.now false) = search (rules, tests) in
+    (z.0, z.1 ∙ told x.now)))

@@ -1,18 +1,15 @@
 -- `listing::decompose_listed` meets its contract: its checks, then the work. Assumes nothing.
 use mathlib.Core.Path.{◌≡◌}
-use Rattle.refusals.proofs.After.{refused_by, passed_by}
+use Rattle.refusals.proofs.After.{passed_by}
 use Rattle.pyramid.proofs.Sides.{sides_are}
 use Rattle.coder.proofs.Gates.{truth, small_samples}
 use Rattle.listing.specs.Entries.{listed_refusal}
 use Rattle.listing.proofs.Together.{refuses_listed, listed_past}
 use Rattle.listing.proofs.decompose_listed.Goals as goal
 
-pub returns-in-Refused : goal.returns-in-Refused
-returns-in-Refused c = refuses_listed _ _ _ _ _ _ _ _ _ c.in-Refused.r (refused_by c.in-Refused.r c.in-Refused.is c.listed_checks-found.ensures)
-
 pub decompose_all-requires : goal.decompose_all-requires
 decompose_all-requires c =
-    let accepted : (let a = c.args in 0 ≡ listed_refusal a.height a.width a.levels a.tolerance a.samples.now a.list.now a.plane.now a.coverings.now a.scratch.now) = passed_by c.in_default.is c.listed_checks-found.ensures in
+    let accepted : (let a = c.args in 0 ≡ listed_refusal a.height a.width a.levels a.tolerance a.samples.now a.list.now a.plane.now a.coverings.now a.scratch.now) = passed_by c.in_ok-listed_checks.was c.listed_checks.ensures in
     let a = c.args in
     let y = listed_past a.height a.width a.levels a.tolerance a.samples.now a.list.now a.plane.now a.coverings.now a.scratch.now accepted in
     let z = y.0 in
@@ -21,5 +18,5 @@ decompose_all-requires c =
 
 pub returns : goal.returns
 returns c =
-    let accepted : (let a = c.args in 0 ≡ listed_refusal a.height a.width a.levels a.tolerance a.samples.now a.list.now a.plane.now a.coverings.now a.scratch.now) = passed_by c.in_default.is c.listed_checks-found.ensures in
+    let accepted : (let a = c.args in 0 ≡ listed_refusal a.height a.width a.levels a.tolerance a.samples.now a.list.now a.plane.now a.coverings.now a.scratch.now) = passed_by c.in_ok-listed_checks.was c.listed_checks.ensures in
     let e = c.decompose_all.ensures in record { number = accepted; planes = e.0; covers = e.1; zeros = e.2 }

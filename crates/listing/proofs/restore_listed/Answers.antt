@@ -10,16 +10,6 @@ use Rattle.listing.specs.Standing.{stand_refusal}
 use Rattle.listing.proofs.Together.{rejects_listed, stood}
 use Rattle.listing.proofs.restore_listed.Goals as goal
 
-pub returns-in-Refused : goal.returns-in-Refused
-returns-in-Refused c = rejects_listed _ _ _ _ _ _ _ _ _ c.in-Refused.r (front_refused c.in-Refused.r _ c.in-Refused.is (c.frame_checks-framed.ensures _))
-
-pub returns-in-Refused-found : goal.returns-in-Refused-found
-returns-in-Refused-found c =
-    let behind : let a = c.args in
-    stand_refusal a.coverings.now a.list.now (refuse_if (not (in_range a.levels a.height a.width (image_of a.height a.plane.now))) 6 0)
-    ≡ restore_listed_refusal a.height a.width a.levels a.plane.now a.coverings.now a.list.now a.numerators.now a.samples.now a.scratch.now = front_passed _ c.in_default.is (c.frame_checks-framed.ensures _) in
-    rejects_listed _ _ _ _ _ _ _ _ _ c.in-Refused-found.r (front_refused c.in-Refused-found.r _ c.in-Refused-found.is (c.stand_checks-found.ensures _) ∙ behind)
-
 pub returns : goal.returns
 returns c =
-    stood _ _ _ _ _ _ _ _ _ _ _ _ _ (front_passed 0 c.in_default-found.is (c.stand_checks-found.ensures 0)) c.restore.ensures
+    stood _ _ _ _ _ _ _ _ _ _ _ _ _ (front_passed 0 c.in_ok-stand_checks.was (c.stand_checks.ensures 0)) c.restore.ensures

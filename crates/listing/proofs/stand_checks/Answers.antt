@@ -1,7 +1,6 @@
 -- `listing::stand_checks` meets its contract: each return by what the tests before it found. Assumes nothing.
 use mathlib.Core.Path.{◌≡◌, sym, ◌∙◌}
 use mathlib.Core.Bool.{true}
-use borrow.Author.Tests.{not-false}
 use Rattle.integers.specs.Lists.{every, one_of}
 use Rattle.terms.specs.Terms.{is_list}
 use Rattle.listing.proofs.Together.{stand_numbers}

@@ -46,7 +46,7 @@ returns-then-k-eq1 t c =
 pub values-v-requires : goal.values-v-requires
 values-v-requires t c =
     let p = c.requires.restorable in
-    record { cells_value = c.requires.cells_value; k_in_bounds = values_asked p.0 p.1 }
+    values_asked p.0 p.1
 
 pub loop-q-init : goal.loop-q-init
 loop-q-init t c = (omega arith, λ p l. absurd (omega arith))
@@ -68,7 +68,7 @@ whole_in-requires t c =
     c.values-v.ensures c.results-results.result c.by_labels-pieces.ensures ∙ values-told p.0 p.1 c.requires.low_value c.results-results.ensures in
     let r = c.child-below.ensures in (
       omega (arith, ap (λ (n : Node). n.level) r.0, c.decreases, p.1.some, c.if-k-eq1.false),
-      (c.requires.cells_value, asked (below k c.loop-q.q) a.coverings.now a.plane.now r.0 a.unit p.0 r.1 p.2 (c.quarter-quad.ensures _ _ _ valued)),
+      asked (below k c.loop-q.q) a.coverings.now a.plane.now r.0 a.unit p.0 r.1 p.2 (c.quarter-quad.ensures _ _ _ valued),
     )
 
 pub returns-then-not-whole_in : goal.returns-then-not-whole_in

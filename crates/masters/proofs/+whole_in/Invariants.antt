@@ -11,6 +11,3 @@ decreases-whole_in l = l.k.level
 abbrev pub invariant-loop-q : goal.invariant-loop-q
 invariant-loop-q l =
     (l.q ≤ 4) × ((p : ℕ) → p < l.q → AllIn (l.k.level - 1 - 1) (WholeCell l.k.levels l.k.height l.k.width l.coverings l.plane) (l.k.i * 2 + p % 2) (l.k.j * 2 + p / 2))
-
-abbrev pub decreases-loop-q : goal.decreases-loop-q
-decreases-loop-q l = 4 - l.q

@@ -5,14 +5,10 @@ use native.Mathlib.Omega.{arith}
 use Rattle.integers.proofs.Tests.{is_true, is_false}
 use Rattle.pyramid.specs.Plane.{halved}
 use Rattle.pyramid.proofs.Behind.{halved_shift}
-use Rattle.pyramid.proofs.Ranges.{halved_le}
 use Rattle.masters.specs.Cells.{WholeCell}
 use Rattle.masters.proofs.Descent.{failed, passed, picture_of_law, in_picture, every_cell}
 use borrow.Author.Count.{below_more}
 use Rattle.masters.proofs.all_whole.Goals as goal
-
-pub cells-cells-requires : goal.cells-cells-requires
-cells-cells-requires c = tt
 
 pub power-unit-requires : goal.power-unit-requires
 power-unit-requires c = c.requires.most
@@ -29,7 +25,7 @@ loop-j-init c = (omega arith, λ p l. absurd (omega arith))
 pub column_whole-requires : goal.column_whole-requires
 column_whole-requires c =
     let col : (let a = c.args in c.loop-j.j < halved (a.levels - 1) a.width / 4) = let a = c.args in omega (arith, c.loop-j-test.true, ap (λ (n : ℕ). n / 4) (halved_shift (a.levels - 1) a.width)) in
-    record { cells_value = c.cells-cells.ensures; restorable = c.requires; j_bound = (col, c.power-unit.ensures) }
+    record { restorable = c.requires; j_bound = (col, c.power-unit.ensures) }
 
 pub returns-then-not-column_whole : goal.returns-then-not-column_whole
 returns-then-not-column_whole c =
@@ -37,14 +33,6 @@ returns-then-not-column_whole c =
     let a = c.args in
     let e = every_cell a.levels a.height a.width a.coverings.now a.plane.now in
     sym (is_false _ (λ t. failed c.column_whole.result c.if-not-column_whole.true (c.column_whole.ensures.1 (in_picture a.levels a.height a.width c.requires.some c.requires.fits (WholeCell a.levels a.height a.width a.coverings.now a.plane.now) (e.0 t) c.loop-j.j col))))
-
-pub overflow_add-j : goal.overflow_add-j
-overflow_add-j c =
-    let col : (let a = c.args in c.loop-j.j < halved (a.levels - 1) a.width / 4) = let a = c.args in omega (arith, c.loop-j-test.true, ap (λ (n : ℕ). n / 4) (halved_shift (a.levels - 1) a.width)) in
-    omega (arith, col, halved_le (c.args.levels - 1) c.args.width, c.requires.width)
-
-pub loop-j-smaller : goal.loop-j-smaller
-loop-j-smaller c = omega (arith, c.loop-j-test.true)
 
 pub loop-j-preserved : goal.loop-j-preserved
 loop-j-preserved c =

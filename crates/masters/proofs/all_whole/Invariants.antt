@@ -6,6 +6,3 @@ use Rattle.masters.proofs.all_whole.Given as goal
 -- the block columns that were looked at are whole
 abbrev pub invariant-loop-j : goal.invariant-loop-j
 invariant-loop-j l = (l.j ≤ l.wide / 4) × ((p : ℕ) → p < l.j → AllAlong (l.levels - 1) (WholeCell l.levels l.height l.width l.coverings l.plane) l.height p)
-
-abbrev pub decreases-loop-j : goal.decreases-loop-j
-decreases-loop-j l = l.wide / 4 - l.j

@@ -43,19 +43,13 @@ whole_in-requires c =
     let k = c.first_node-k.ensures in
     let q = asked (block_at a.levels a.height a.width a.levels c.loop-i.i a.j) a.coverings.now a.plane.now k.0 a.unit c.requires.restorable k.1 c.requires.j_bound.1
     (values_last a.levels a.height a.width a.coverings.now a.plane.now c.loop-i.i a.j c.last-low.ensures) in
-    record { cells_value = c.requires.cells_value; restorable = q.0; low_value = q.1 }
+    record { restorable = q.0; low_value = q.1 }
 
 pub returns-then-not-whole_in : goal.returns-then-not-whole_in
 returns-then-not-whole_in c =
     let a = c.args in
     let said : T c.whole_in.result ↔ AllIn (a.levels - 1) (WholeCell a.levels a.height a.width a.coverings.now a.plane.now) c.loop-i.i a.j = told (block_at a.levels a.height a.width a.levels c.loop-i.i a.j) a.coverings.now a.plane.now c.first_node-k.ensures.0 c.whole_in.result c.whole_in.ensures in
     ((λ f. absurd f), (λ all. absurd (failed c.whole_in.result c.if-not-whole_in.true (said.1 (in_column a.levels a.height a.width c.requires.restorable.some c.requires.restorable.fits (WholeCell a.levels a.height a.width a.coverings.now a.plane.now) a.j all c.loop-i.i (row (goal.at.returns-then-not-whole_in c).In-loop-i))))))
-
-pub overflow_add-i : goal.overflow_add-i
-overflow_add-i c = omega (arith, row (goal.at.overflow_add-i c).In-loop-i, halved_le (c.args.levels - 1) c.args.height, c.requires.restorable.height)
-
-pub loop-i-smaller : goal.loop-i-smaller
-loop-i-smaller c = omega (arith, c.loop-i-test.true)
 
 pub loop-i-preserved : goal.loop-i-preserved
 loop-i-preserved c =

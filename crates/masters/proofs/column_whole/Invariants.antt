@@ -7,6 +7,3 @@ use Rattle.masters.proofs.column_whole.Given as goal
 -- the blocks that were looked at are whole
 abbrev pub invariant-loop-i : goal.invariant-loop-i
 invariant-loop-i l = (l.i ≤ l.tall / 4) × ((p : ℕ) → p < l.i → AllIn (l.levels - 1) (WholeCell l.levels l.height l.width l.coverings l.plane) p l.j)
-
-abbrev pub decreases-loop-i : goal.decreases-loop-i
-decreases-loop-i l = l.tall / 4 - l.i

@@ -19,9 +19,6 @@ returns-then-y-lt0 c = below_zero c.args.levels c.args.y (subst (λ (x : ℤ). l
 pub overflow_cast-n : goal.overflow_cast-n
 overflow_cast-n c = rw (to_z-of_z c.ranges.y) (casts c.args.y c.ranges.y (not_below c))
 
-pub whitest-requires : goal.whitest-requires
-whitest-requires c = tt
-
 pub returns-then-whitest-q : goal.returns-then-whitest-q
 returns-then-whitest-q c =
     above c.args.levels c.requires.0 c.args.y (not_below (goal.at.returns-then-whitest-q c).Else-y-lt0) (rw (to_z-of_z c.ranges.y, c.whitest.ensures.0) at c.if-whitest-q.true)

@@ -13,41 +13,41 @@ use Rattle.places.proofs.Steps.{not_ended}
 use Rattle.sheet_render.proofs.Pieces.{blocks_from, blocks_next, blocks_end}
 use Rattle.sheet_render.proofs.blocks_length.Goals as goal
 
-pub loop-i-init : goal.loop-i-init
-loop-i-init c =
+pub loop-covering-init : goal.loop-covering-init
+loop-covering-init c =
     let cs = c.args.coverings.now in
     let e = c.first_block-k.ensures.result_value in
     let n = blocks_count 0 c.args.levels c.args.height c.args.width in
     let l = c.requires.coverings_len.0 in
-    (c.first_block-k.ensures.inside, omega arith, omega (arith, ap length e), omega arith, omega (arith, ap (λ bs. length (rows_text (block_rows bs cs))) e))
+    (c.first_block-k.ensures.inside, omega (arith, ap length e), omega arith, omega (arith, ap (λ bs. length (rows_text (block_rows bs cs))) e))
 
 pub overflow_add-n : goal.overflow_add-n
 overflow_add-n c =
-    let l = c.loop-i in
+    let l = c.loop-covering in
     let k = l.k in
     let cs = c.args.coverings.now in
-    omega (arith, c.requires.coverings_len.1, c.four_width-n.ensures, four_bound k.level k.row k.col (get_or cs l.i 0) 10)
+    omega (arith, c.requires.coverings_len.1, c.four_width-n.ensures, four_bound k.level k.row k.col (get_or cs l.covering-index 0) 10)
 
 pub step-k-requires : goal.step-k-requires
 step-k-requires c =
-    let l = c.loop-i in
+    let l = c.loop-covering in
     (not_ended block_at l.k (omega arith), l.invariant.0)
 
-pub loop-i-preserved : goal.loop-i-preserved
-loop-i-preserved c =
-    let l = c.loop-i in
+pub loop-covering-preserved : goal.loop-covering-preserved
+loop-covering-preserved c =
+    let l = c.loop-covering in
     let k = l.k in
     let cs = c.args.coverings.now in
     let e = c.step-k.ensures.blocks in
-    let b = get_or cs l.i 0 in
+    let b = get_or cs l.covering-index 0 in
     let t = four_text k.level k.row k.col b 10 in
     let w = c.four_width-n.ensures in
     let m = four_bound k.level k.row k.col b 10 in
-    let x = ap length (blocks_next k (blocks_left c.step-k.result) cs l.i (omega arith) e) ∙ length-append t (blocks_from c.step-k.result cs (l.i + 1)) in
-    (c.step-k.ensures.inside, omega arith, omega (arith, ap length e), omega arith, omega arith)
+    let x = ap length (blocks_next k (blocks_left c.step-k.result) cs l.covering-index (omega arith) e) ∙ length-append t (blocks_from c.step-k.result cs (l.covering-index + 1)) in
+    (c.step-k.ensures.inside, omega (arith, ap length e), omega arith, omega arith)
 
 pub returns : goal.returns
 returns c =
-    let l = c.loop-i in
-    let z = ap length (blocks_end l.k c.args.coverings.now l.i (omega arith)) in
+    let l = c.loop-covering in
+    let z = ap length (blocks_end l.k c.args.coverings.now l.covering-index (omega arith)) in
     (omega arith, omega (arith, c.requires.coverings_len.1))

@@ -1,7 +1,7 @@
 -- `sheet_render::entries_length` meets its contract: what is measured and what is left to measure are all. Assumes nothing.
 use mathlib.Core.Path.{◌≡◌}
 use mathlib.Core.Bool.{true}
-use Prim.Native.Nat.{◌+◌, ◌*◌, ◌-◌, ◌≤◌}
+use Prim.Native.Nat.{◌+◌, ◌*◌, ◌≤◌}
 use lib.ListN.{length}
 use Rattle.pyramid.specs.Slices.{image_of}
 use Rattle.sheet_text.specs.Sheet.{entries_text}

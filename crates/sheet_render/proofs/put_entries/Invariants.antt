@@ -1,10 +1,9 @@
 -- `sheet_render::put_entries` meets its contract: what is left to write from the present place is all there is to write. Assumes nothing.
 use mathlib.Core.Path.{◌≡◌}
 use mathlib.Core.Bool.{true}
-use Prim.Native.Nat.{◌+◌, ◌-◌}
+use Prim.Native.Nat.{◌+◌}
 use lib.ListN.{length}
 use Rattle.text.specs.Write.{stamp}
-use Rattle.pyramid.specs.Places.{at}
 use Rattle.pyramid.specs.Slices.{image_of}
 use Rattle.sheet_text.specs.Sheet.{entries_text}
 use Rattle.places.specs.Walk.{Inside, entries_left}

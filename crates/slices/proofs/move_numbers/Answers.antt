@@ -1,21 +1,6 @@
 -- `slices::move_numbers` meets its contract. Assumes nothing.
-use mathlib.Core.Path.{◌≡◌}
-use Prim.Native.Nat.{◌-◌}
-use native.Mathlib.Numerals.{add-one}
-use native.Mathlib.Omega.{arith}
-use borrow.Author.Rules.{rules}
-use Rattle.slices.specs.Stores.{pasted}
+use Rattle.slices.proofs.Stores.{pasted_part}
 use Rattle.slices.proofs.move_numbers.Goals as goal
 
-pub loop-r-preserved : goal.loop-r-preserved
-unfolding pasted
-loop-r-preserved c = (search rules, search rules, rw (add-one, c.loop-r.invariant.2))
-
 pub returns : goal.returns
-returns c =
-    let e : c.loop-r.r ≡ c.args.n = omega arith in
-    rw (← e) c.loop-r.invariant.2
-
-pub loop-r-init : goal.loop-r-init
-unfolding pasted
-loop-r-init c = search rules
+returns c = pasted_part 0 c.args.from.now c.args.first c.args.at c.args.n c.args.to.now c.copy_from_slice.new.self c.requires.0 c.requires.1 c.copy_from_slice.ensures.after

@@ -1,14 +1,7 @@
--- `slices::widen` meets its contract. Assumes nothing.
-use mathlib.Core.Path.{◌≡◌}
-use mathlib.Core.List.{map}
-use Prim.Native.Nat.{◌≤◌, ◌-◌}
-use lib.IntN.{pos}
-use lib.ListN.{length}
+-- `slices::widen` meets its contract: the slice holds the samples at the places passed. Assumes nothing.
+use Rattle.std.proofs.Common.{◌≡◌, map, pos}
 use Rattle.integers.specs.Lists.{half}
 use Rattle.slices.proofs.widen.Given as goal
 
 abbrev pub invariant-loop-i : goal.invariant-loop-i
-invariant-loop-i l = (l.i ≤ length l.initial.to) × (length l.to ≡ length l.initial.to) × (length l.initial.to ≡ length l.from) × (l.to ≡ half (map pos l.from) l.initial.to l.i)
-
-abbrev pub decreases-loop-i : goal.decreases-loop-i
-decreases-loop-i l = length l.initial.to - l.i
+invariant-loop-i l = l.to ≡ half (map pos l.from) l.initial.to l.i

@@ -1,10 +1,10 @@
 -- `smoothing::mix_run` meets its contract. Assumes nothing.
-use mathlib.Core.Path.{◌≡◌, refl, sym, ap, ◌∙◌}
-use Prim.Native.Nat.{ℕ, ◌+◌, ◌-◌, ◌<◌}
+use mathlib.Core.Path.{◌≡◌, sym, ap, ◌∙◌}
+use Prim.Native.Nat.{ℕ, ◌+◌, ◌<◌}
 use native.Mathlib.Nat.{add-zero}
 use native.Mathlib.Omega.{arith}
-use lib.IntN.{ℤ, pos}
-use lib.ListN.{length, get_or, length-set}
+use lib.IntN.{pos}
+use lib.ListN.{length, get_or}
 use mir.Syntax.{w64}
 use mir.Val.{to_z, of_z}
 use Rattle.integers.specs.Lists.{half}
@@ -16,55 +16,12 @@ use Rattle.smoothing.proofs.Cells.{entry_small}
 use Rattle.smoothing.proofs.mix_run.Goals as goal
 
 pub loop-i-init : goal.loop-i-init
-loop-i-init c = (omega arith, refl, λ new old m n l e. e ∙ ap (half new old) (sym (add-zero c.args.first)))
-
-pub overflow_add-k : goal.overflow_add-k
-overflow_add-k c =
-    let place : (c.args.first + c.loop-i.i) < length c.args.out.now = omega (arith, c.requires.count_in_bounds.0) in
-    omega (arith, place, c.requires.count_in_bounds.1)
-
-pub offset_bounds-plane-k : goal.offset_bounds-plane-k
-offset_bounds-plane-k c =
-    let place : (c.args.first + c.loop-i.i) < length c.args.out.now = omega (arith, c.requires.count_in_bounds.0) in
-    omega (arith, place, c.requires.count_in_bounds.1)
-
-pub bounds-plane-k : goal.bounds-plane-k
-bounds-plane-k c =
-    let place : (c.args.first + c.loop-i.i) < length c.args.out.now = omega (arith, c.requires.count_in_bounds.0) in
-    omega (arith, place, c.requires.count_in_bounds.2)
-
-pub offset_bounds-decomposed-k : goal.offset_bounds-decomposed-k
-offset_bounds-decomposed-k c =
-    let place : (c.args.first + c.loop-i.i) < length c.args.out.now = omega (arith, c.requires.count_in_bounds.0) in
-    omega (arith, place, c.requires.count_in_bounds.1)
-
-pub bounds-decomposed-k : goal.bounds-decomposed-k
-bounds-decomposed-k c =
-    let place : (c.args.first + c.loop-i.i) < length c.args.out.now = omega (arith, c.requires.count_in_bounds.0) in
-    omega (arith, place, c.requires.count_in_bounds.3)
+loop-i-init c = λ new old m n l e. e ∙ ap (half new old) (sym (add-zero c.args.first))
 
 pub mixed_entry-requires : goal.mixed_entry-requires
 mixed_entry-requires c =
     let place : (c.args.first + c.loop-i.i) < length c.args.out.now = omega (arith, c.requires.count_in_bounds.0) in
     (rw (kept {x = (get_or c.args.plane.now (c.args.first + c.loop-i.i) (pos 0))} c.mixed_entry-arg-1.given) (c.requires.by_index.0 (c.args.first + c.loop-i.i) place), rw (kept {x = (get_or c.args.decomposed.now (c.args.first + c.loop-i.i) (pos 0))} c.mixed_entry-arg-in-loop-i-1.given) (c.requires.by_index.1 (c.args.first + c.loop-i.i) place), c.requires.count_in_bounds.4)
-
-pub offset_bounds-out-k : goal.offset_bounds-out-k
-offset_bounds-out-k c =
-    let place : (c.args.first + c.loop-i.i) < length c.args.out.now = omega (arith, c.requires.count_in_bounds.0) in
-    omega (arith, place, c.requires.count_in_bounds.1)
-
-pub bounds-out-k : goal.bounds-out-k
-bounds-out-k c =
-    let place : (c.args.first + c.loop-i.i) < length c.args.out.now = omega (arith, c.requires.count_in_bounds.0) in
-    omega (arith, place, c.loop-i.invariant.1)
-
-pub overflow_add-i : goal.overflow_add-i
-overflow_add-i c =
-    let place : (c.args.first + c.loop-i.i) < length c.args.out.now = omega (arith, c.requires.count_in_bounds.0) in
-    omega (arith, place, c.requires.count_in_bounds.1)
-
-pub loop-i-smaller : goal.loop-i-smaller
-loop-i-smaller c = omega arith
 
 pub loop-i-preserved : goal.loop-i-preserved
 loop-i-preserved c =
@@ -74,17 +31,11 @@ loop-i-preserved c =
     (c.mixed_entry.ensures ∙ λ j. mixed_entry c.args.step c.args.low (kept {x = (get_or c.args.plane.now (c.args.first + c.loop-i.i) (pos 0))} c.mixed_entry-arg-1.given j) (kept {x = (get_or c.args.decomposed.now (c.args.first + c.loop-i.i) (pos 0))} c.mixed_entry-arg-in-loop-i-1.given j))
     (entry_small c.args.step c.args.low (get_or c.args.plane.now (c.args.first + c.loop-i.i) (pos 0)) (get_or c.args.decomposed.now (c.args.first + c.loop-i.i) (pos 0)) c.requires.count_in_bounds.4 (c.requires.by_index.0 (c.args.first + c.loop-i.i) place) (c.requires.by_index.1 (c.args.first + c.loop-i.i) place)) in
     let l = c.loop-i in
-    let q : c.args.first + l.i + 1 ≡ c.args.first + (l.i + 1) = omega arith in (
-      omega arith,
-      length-set l.out (c.args.first + l.i) _ ∙ l.invariant.1,
-      λ new old m n k e. half_store new old (c.args.first + l.i) (pos 0) (l.invariant.2 new old m n k e) (stored ∙ sym (m l.i (omega arith))) n (omega (arith, place)) ∙ ap (half new old) q,
-    )
-
-pub shape_of-out : goal.shape_of-out
-shape_of-out c = c.loop-i.invariant.1
+    let q : c.args.first + l.i + 1 ≡ c.args.first + (l.i + 1) = omega arith in
+    λ new old m n k e. half_store new old (c.args.first + l.i) (pos 0) (l.invariant new old m n k e) (stored ∙ sym (m l.i (omega arith))) n (omega (arith, place)) ∙ ap (half new old) q
 
 pub returns : goal.returns
 returns c =
     let l = c.loop-i in
     let q : l.i ≡ c.args.count = omega arith in
-    λ new old m n k e. l.invariant.2 new old m n k e ∙ ap (λ (i : ℕ). half new old (c.args.first + i)) q
+    λ new old m n k e. l.invariant new old m n k e ∙ ap (λ (i : ℕ). half new old (c.args.first + i)) q

@@ -1,8 +1,8 @@
 -- `smoothing::mix_run` meets its contract. Assumes nothing.
 use mathlib.Core.Path.{◌≡◌}
 use mathlib.Core.List.{List}
-use Prim.Native.Nat.{◌+◌, ◌-◌, ◌≤◌}
-use lib.IntN.{ℤ, pos}
+use Prim.Native.Nat.{◌+◌}
+use lib.IntN.{ℤ}
 use lib.ListN.{length}
 use Rattle.integers.specs.Lists.{half}
 use Rattle.smoothing.specs.Mixed.{Mixes}
@@ -10,7 +10,4 @@ use Rattle.smoothing.proofs.mix_run.Given as goal
 
 abbrev pub invariant-loop-i : goal.invariant-loop-i
 invariant-loop-i l =
-    (l.i ≤ l.count) × (length l.out ≡ length l.initial.out) × ((new old : List ℤ) → Mixes l.step l.low l.plane l.decomposed l.first l.count new → length new ≡ length old → length old ≡ length l.initial.out → l.initial.out ≡ half new old l.first → l.out ≡ half new old (l.first + l.i))
-
-abbrev pub decreases-loop-i : goal.decreases-loop-i
-decreases-loop-i l = l.count - l.i
+    (new old : List ℤ) → Mixes l.step l.low l.plane l.decomposed l.first l.count new → length new ≡ length old → length old ≡ length l.initial.out → l.initial.out ≡ half new old l.first → l.out ≡ half new old (l.first + l.i)

@@ -18,28 +18,18 @@ moved_small : (b : Bool) (d : ℤ) → nat_abs d ≤ 2 ^ 40 → nat_abs (cond b 
 moved_small true d h = omega arith
 moved_small false d h = h
 
-pub is_zero-requires : goal.is_zero-requires
-is_zero-requires c = tt
-
-pub unless-moved-requires : goal.unless-moved-requires
-unless-moved-requires c = tt
-
 pub overflow_mul-result : goal.overflow_mul-result
 overflow_mul-result c =
-    let small : nat_abs (cond (c.args.low || not (is_zero c.args.z)) (pos 0) c.args.d) ≤ 2 ^ 40 = moved_small (c.args.low || not (is_zero c.args.z)) c.args.d c.requires.1 in
-    entry_first c.args.z c.args.step (cond (c.args.low || not (is_zero c.args.z)) (pos 0) c.args.d) c.ranges.z c.requires.0 c.requires.2 (moved_is c) small
+    entry_first c.args.z c.args.step (cond (c.args.low || not (is_zero c.args.z)) (pos 0) c.args.d) c.ranges.z c.requires.0 c.requires.2 (moved_is c) (moved_small (c.args.low || not (is_zero c.args.z)) c.args.d c.requires.1)
 
 pub overflow_mul-result-2 : goal.overflow_mul-result-2
 overflow_mul-result-2 c =
-    let small : nat_abs (cond (c.args.low || not (is_zero c.args.z)) (pos 0) c.args.d) ≤ 2 ^ 40 = moved_small (c.args.low || not (is_zero c.args.z)) c.args.d c.requires.1 in
-    entry_second c.args.z c.args.step (cond (c.args.low || not (is_zero c.args.z)) (pos 0) c.args.d) c.ranges.z c.requires.0 c.requires.2 (moved_is c) small
+    entry_second c.args.z c.args.step (cond (c.args.low || not (is_zero c.args.z)) (pos 0) c.args.d) c.ranges.z c.requires.0 c.requires.2 (moved_is c) (moved_small (c.args.low || not (is_zero c.args.z)) c.args.d c.requires.1)
 
 pub overflow_sub-result : goal.overflow_sub-result
 overflow_sub-result c =
-    let small : nat_abs (cond (c.args.low || not (is_zero c.args.z)) (pos 0) c.args.d) ≤ 2 ^ 40 = moved_small (c.args.low || not (is_zero c.args.z)) c.args.d c.requires.1 in
-    entry_fit c.args.z c.args.step (cond (c.args.low || not (is_zero c.args.z)) (pos 0) c.args.d) c.ranges.z c.requires.0 c.requires.2 (moved_is c) small
+    entry_fit c.args.z c.args.step (cond (c.args.low || not (is_zero c.args.z)) (pos 0) c.args.d) c.ranges.z c.requires.0 c.requires.2 (moved_is c) (moved_small (c.args.low || not (is_zero c.args.z)) c.args.d c.requires.1)
 
 pub returns : goal.returns
 returns c =
-    let small : nat_abs (cond (c.args.low || not (is_zero c.args.z)) (pos 0) c.args.d) ≤ 2 ^ 40 = moved_small (c.args.low || not (is_zero c.args.z)) c.args.d c.requires.1 in
-    entry_is c.args.z c.args.step (cond (c.args.low || not (is_zero c.args.z)) (pos 0) c.args.d) c.ranges.z c.requires.0 c.requires.2 (moved_is c) small
+    entry_is c.args.z c.args.step (cond (c.args.low || not (is_zero c.args.z)) (pos 0) c.args.d) c.ranges.z c.requires.0 c.requires.2 (moved_is c) (moved_small (c.args.low || not (is_zero c.args.z)) c.args.d c.requires.1)

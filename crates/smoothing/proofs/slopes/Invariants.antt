@@ -1,17 +1,13 @@
 -- `smoothing::slopes` meets its contract. Assumes nothing.
 use mathlib.Core.Path.{◌≡◌}
 use mathlib.Core.List.{List}
-use Prim.Native.Nat.{◌*◌, ◌-◌, ◌≤◌}
+use Prim.Native.Nat.{◌*◌}
 use lib.IntN.{ℤ}
 use lib.ListN.{length}
 use Rattle.integers.specs.Lists.{half}
-use Rattle.variation.specs.Smooth.{gradient}
 use Rattle.smoothing.specs.Mixed.{gradient_of}
 use Rattle.smoothing.proofs.slopes.Given as goal
 
 abbrev pub invariant-loop-col : goal.invariant-loop-col
 invariant-loop-col l =
-    (l.col ≤ l.width) × (length l.out ≡ l.width * l.height) × ((old : List ℤ) × (length old ≡ l.width * l.height) × (l.out ≡ half (gradient_of l.height l.width l.values) old (l.col * l.height)))
-
-abbrev pub decreases-loop-col : goal.decreases-loop-col
-decreases-loop-col l = l.width - l.col
+    (old : List ℤ) × (length old ≡ l.width * l.height) × (l.out ≡ half (gradient_of l.height l.width l.values) old (l.col * l.height))

@@ -66,7 +66,7 @@ pub put_pieces-requires : goal.put_pieces-requires
 put_pieces-requires c =
     let inside : c.args.j * 4 * c.args.height + c.args.i * 4 + 3 * c.args.height + 3 < length c.args.out.now = omega (arith, cells_inside c.requires.level c.args.i c.args.j c.requires.height_in_bounds.1 c.requires.height_in_bounds.2, c.requires.height_in_bounds.0) in
     let number : Number (get_or c.args.coverings.now (c.args.first + (c.args.j * (c.args.tall / 4) + c.args.i)) 0) = c.requires.level.numbers (c.args.j * (c.args.tall / 4) + c.args.i) (covering_below c.requires.level c.args.i c.args.j c.requires.height_in_bounds.1 c.requires.height_in_bounds.2) in
-    (c.requires.cells_value, number, inside)
+    (number, inside)
 
 pub returns : goal.returns
 unfolding put_block merged_block

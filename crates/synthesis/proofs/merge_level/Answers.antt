@@ -13,11 +13,11 @@ use Rattle.synthesis.proofs.merge_level.Goals as goal
 
 pub loop-j-init : goal.loop-j-init
 unfolding put_columns
-loop-j-init c = (omega arith, refl, refl)
+loop-j-init c = (refl, refl)
 
 pub merge_column-requires : goal.merge_column-requires
 merge_column-requires c =
-    record { cells_value = c.requires.cells_value; level = c.requires.level; height_in_bounds = (omega arith, omega arith) }
+    record { level = c.requires.level; height_in_bounds = (omega arith, omega arith) }
 
 pub loop-j-preserved : goal.loop-j-preserved
 unfolding put_columns
@@ -25,11 +25,11 @@ loop-j-preserved c =
     let a = c.args in
     let v = merged_block a.height a.tall a.wide a.weight (after a.first (listed a.coverings.now)) a.image.now in
     let e : c.merge_column.new.out ≡ put_columns a.height v (a.tall / 4) (c.loop-j.j + 1) a.out.now =
-    rw (add-one c.loop-j.j) (c.merge_column.ensures ∙ ap (λ (x : List ℤ). put_column a.height v c.loop-j.j (a.tall / 4) x) c.loop-j.invariant.2) in
-    (omega arith, ap length e ∙ columns_length a.height v (a.tall / 4) (c.loop-j.j + 1) a.out.now (omega arith), e)
+    rw (add-one c.loop-j.j) (c.merge_column.ensures ∙ ap (λ (x : List ℤ). put_column a.height v c.loop-j.j (a.tall / 4) x) c.loop-j.invariant.1) in
+    (ap length e ∙ columns_length a.height v (a.tall / 4) (c.loop-j.j + 1) a.out.now (omega arith), e)
 
 pub returns : goal.returns
 returns c =
     let a = c.args in
     let e : c.loop-j.j ≡ a.wide / 4 = omega arith in
-    c.loop-j.invariant.2 ∙ ap (λ (n : ℕ). put_columns a.height (merged_block a.height a.tall a.wide a.weight (after a.first (listed a.coverings.now)) a.image.now) (a.tall / 4) n a.out.now) e
+    c.loop-j.invariant.1 ∙ ap (λ (n : ℕ). put_columns a.height (merged_block a.height a.tall a.wide a.weight (after a.first (listed a.coverings.now)) a.image.now) (a.tall / 4) n a.out.now) e

@@ -15,14 +15,5 @@ overflow_cast-result c = sfits64 (pos c.args.unit) (omega (arith, four_most c.ar
 pub overflow_add-result : goal.overflow_add-result
 overflow_add-result c = sum_fits c.args.y c.args.levels c.args.unit c.ranges.y c.requires.0 c.requires.1 c.requires.2
 
-pub overflow_mul-result-2 : goal.overflow_mul-result-2
-overflow_mul-result-2 c = omega arith
-
-pub overflow_add-result-2 : goal.overflow_add-result-2
-overflow_add-result-2 c = omega arith
-
-pub overflow_shr-result : goal.overflow_shr-result
-overflow_shr-result c = omega arith
-
 pub returns : goal.returns
 returns c = nearest_is c.args.y c.args.levels c.args.unit c.ranges.y c.requires.0 c.requires.1 c.requires.2

@@ -6,15 +6,12 @@ use Rattle.pyramid.specs.Slices.{numerators_of, sample_of}
 use Rattle.synthesis.proofs.Deeper.{by_largest, held_length, held_small}
 use Rattle.synthesis.proofs.restore_all.Goals as goal
 
-pub cells-cells-requires : goal.cells-cells-requires
-cells-cells-requires c = tt
-
 pub copy-requires : goal.copy-requires
 copy-requires c = omega (arith, c.requires.restorable.plane_long, c.requires.numerators_len.0)
 
 pub synthesise-requires : goal.synthesise-requires
 synthesise-requires c =
-    record { cells_value = c.cells-cells.ensures; mergeable = rw c.copy.ensures (by_largest c.requires.restorable); scratch_len = c.requires.numerators_len.2 }
+    record { mergeable = rw c.copy.ensures (by_largest c.requires.restorable); scratch_len = c.requires.numerators_len.2 }
 
 pub round-requires : goal.round-requires
 round-requires c =

@@ -12,27 +12,15 @@ use Rattle.pyramid.specs.Slices.{sample_of}
 use Rattle.synthesis.proofs.round.Goals as goal
 
 pub loop-i-init : goal.loop-i-init
-loop-i-init c = (omega arith, c.power-unit.ensures, refl, refl)
-
-pub offset_bounds-numerators-i : goal.offset_bounds-numerators-i
-offset_bounds-numerators-i c = omega (arith, c.well_formed, c.requires.levels_bound)
-
-pub bounds-numerators-i : goal.bounds-numerators-i
-bounds-numerators-i c = omega (arith, c.requires.levels_bound)
+loop-i-init c = (c.power-unit.ensures, refl, refl)
 
 pub sample-requires : goal.sample-requires
 sample-requires c =
     let i = c.loop-i.i in
-    (rw (kept c.sample-arg-1.given) (c.requires.by_index i (omega (arith, c.requires.levels_bound))), c.requires.levels_bound.0, omega (arith, c.loop-i.invariant.1))
+    (rw (kept c.sample-arg-1.given) (c.requires.by_index i (omega (arith, c.requires.levels_bound))), c.requires.levels_bound.0, omega (arith, c.loop-i.invariant.0))
 
 pub offset_bounds-samples-i : goal.offset_bounds-samples-i
 offset_bounds-samples-i c = omega (arith, c.well_formed)
-
-pub bounds-samples-i : goal.bounds-samples-i
-bounds-samples-i c = omega arith
-
-pub loop-i-smaller : goal.loop-i-smaller
-loop-i-smaller c = omega arith
 
 pub loop-i-preserved : goal.loop-i-preserved
 loop-i-preserved c =
@@ -41,15 +29,14 @@ loop-i-preserved c =
     let same : to_z w64 (of_z w64 (get_or n c.loop-i.i (pos 0))) ≡ get_or n c.loop-i.i (pos 0) = kept c.sample-arg-1.given in
     let value : c.sample.result ≡ f (get_or n c.loop-i.i (pos 0)) =
     c.sample.ensures ∙ ap f same in (
-      omega arith,
-      c.loop-i.invariant.1,
+      c.loop-i.invariant.0,
       simp length-set (omega arith),
-      half_store (map f n) _ c.loop-i.i (f (pos 0)) c.loop-i.invariant.3 (value ∙ sym (get_or-map f n c.loop-i.i (pos 0))) (length-map n f ∙ sym c.requires.levels_bound.1) (omega arith),
+      half_store (map f n) _ c.loop-i.i (f (pos 0)) c.loop-i.invariant.2 (value ∙ sym (get_or-map f n c.loop-i.i (pos 0))) (length-map n f ∙ sym c.requires.levels_bound.1) (omega arith),
     )
 
 pub shape_of-samples : goal.shape_of-samples
-shape_of-samples c = c.loop-i.invariant.2
+shape_of-samples c = c.loop-i.invariant.1
 
 pub returns : goal.returns
 returns c =
-    c.loop-i.invariant.3 ∙ half_end (map (sample_of c.args.levels) c.args.numerators.now) _ c.loop-i.i (length-map c.args.numerators.now (sample_of c.args.levels) ∙ sym c.requires.levels_bound.1) (omega arith)
+    c.loop-i.invariant.2 ∙ half_end (map (sample_of c.args.levels) c.args.numerators.now) _ c.loop-i.i (length-map c.args.numerators.now (sample_of c.args.levels) ∙ sym c.requires.levels_bound.1) (omega arith)

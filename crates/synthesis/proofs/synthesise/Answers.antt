@@ -61,9 +61,6 @@ loop-left-init c =
       c.requires.mergeable.some,
     )
 
-pub overflow_sub-left : goal.overflow_sub-left
-overflow_sub-left c = omega arith
-
 pub overflow_shr-tall : goal.overflow_shr-tall
 overflow_shr-tall c = omega (arith, c.requires.mergeable.most)
 
@@ -78,13 +75,10 @@ overflow_sub-first c = takes c
 
 pub rise-requires : goal.rise-requires
 rise-requires c =
-    record { cells_value = c.requires.cells_value; level = level (goal.at.rise-requires c).In-loop-left; scratch_len = omega (arith, c.loop-left.invariant.3, c.loop-left.invariant.4) }
+    record { level = level (goal.at.rise-requires c).In-loop-left; scratch_len = omega (arith, c.loop-left.invariant.3, c.loop-left.invariant.4) }
 
 pub overflow_mul-weight : goal.overflow_mul-weight
 overflow_mul-weight c = omega (arith, (level (goal.at.overflow_mul-weight c).In-loop-left).weight)
-
-pub loop-left-smaller : goal.loop-left-smaller
-loop-left-smaller c = omega arith
 
 pub loop-left-preserved : goal.loop-left-preserved
 loop-left-preserved c =
@@ -109,10 +103,7 @@ pub rise-requires-2 : goal.rise-requires-2
 rise-requires-2 c =
     let last : (let l = c.loop-left in let a = c.args in Turn a.levels a.height a.width l.left a.height a.width 0 l.weight 0) = let l = c.loop-left in record { is = omega arith; within = l.invariant.0; tall_is = refl; wide_is = refl; first_is = refl; weight_is = l.invariant.2 } in
     let last_level : (let l = c.loop-left in let a = c.args in Level a.height a.height a.width l.weight 0 a.coverings.now l.numerators) = let l = c.loop-left in turn_level c.requires.mergeable last l.numerators l.invariant.3 l.invariant.5 in
-    record { cells_value = c.requires.cells_value; level = last_level; scratch_len = omega (arith, c.loop-left.invariant.3, c.loop-left.invariant.4) }
-
-pub clear-requires : goal.clear-requires
-clear-requires c = tt
+    record { level = last_level; scratch_len = omega (arith, c.loop-left.invariant.3, c.loop-left.invariant.4) }
 
 pub returns : goal.returns
 returns c =

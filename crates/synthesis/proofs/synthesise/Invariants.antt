@@ -10,6 +10,3 @@ use Rattle.synthesis.proofs.synthesise.Given as goal
 abbrev pub invariant-loop-left : goal.invariant-loop-left
 invariant-loop-left l =
     (l.left ≤ l.levels) × (l.first ≡ all_blocks l.left l.height l.width) × (l.weight ≡ 4 ^ (l.levels - l.left)) × (length l.numerators ≡ l.width * l.height) × (length l.scratch ≡ l.width * l.height) × Reached l.height l.width l.left (l.levels - l.left) l.coverings (image_of l.height l.initial.numerators) (image_of l.height l.numerators) × (1 ≤ l.left)
-
-abbrev pub decreases-loop-left : goal.decreases-loop-left
-decreases-loop-left l = l.left

@@ -4,12 +4,11 @@ use mathlib.Core.Bool.{not, ◌&&◌}
 use Prim.Native.Nat.{ℕ, ◌≤◌}
 use native.Mathlib.Omega.{arith}
 use native.Mathlib.Nat.{mul-le-mul}
-use borrow.Author.Tests.{not-false}
 use Rattle.refusals.specs.Refusal.{refuse_if}
 use Rattle.refusals.proofs.After.{front_refused, front_passed}
 use Rattle.integers.proofs.Tests.{both_true}
 use Rattle.pyramid.specs.Sides.{is_plane}
-use Rattle.strips.specs.Strip.{Strip, strip_of, is_framed, is_numbered, is_ranged, Framed}
+use Rattle.strips.specs.Strip.{strip_of, is_framed, is_numbered, is_ranged, Framed}
 use Rattle.strips.proofs.Passed.{of_framed}
 use Rattle.places.proofs.Sides.{Passed, size_passed}
 use Rattle.coder.proofs.Gates.{truth}
@@ -18,6 +17,13 @@ use Rattle.viewer.specs.Window.{fits_window, window_refusal}
 use Rattle.windows.specs.Shown.{Inside}
 use Rattle.viewer.proofs.Gates.{inside}
 use Rattle.viewer.proofs.window_checks.Goals as goal
+use Rattle.viewer.proofs.window_checks.Goals.{In_ok-size_checks}
+
+good : (c : goal.In_ok-size_checks) → let a = c.args in Passed a.height a.width a.levels
+good c = size_passed _ _ _ c.in_ok-size_checks.was c.size_checks.ensures
+
+behind : (c : goal.In_ok-size_checks) → let a = c.args in refuse_if (not (fits_window a.height a.width a.v)) 17 (refuse_if (not (is_framed (strip_of c.args.height c.args.width c.args.levels c.args.plane.now c.args.coverings.now) && is_plane a.v.tall a.v.wide a.samples.now)) 3 (refuse_if (not (is_numbered (strip_of c.args.height c.args.width c.args.levels c.args.plane.now c.args.coverings.now))) 5 (refuse_if (not (is_ranged (strip_of c.args.height c.args.width c.args.levels c.args.plane.now c.args.coverings.now))) 6 0))) ≡ window_refusal (strip_of c.args.height c.args.width c.args.levels c.args.plane.now c.args.coverings.now) a.v a.samples.now
+behind c = front_passed _ c.in_ok-size_checks.was (c.size_checks.ensures _)
 
 -- its sides are small
 wide_most : {h w R : ℕ} {v : View} → Inside v h w → Passed h w R → v.wide ≤ 512
@@ -29,20 +35,17 @@ tall_most i z = omega (arith, i.down, z.tall)
 -- the numbers, behind check 5
 sizes : (c : goal.Else-not-all_numbers) → let a = c.args in Passed a.height a.width a.levels
 sizes c =
-    let good : let a = c.args in Passed a.height a.width a.levels = size_passed _ _ _ c.in_default.is c.size_checks-sized.ensures in
+    let good : let a = c.args in Passed a.height a.width a.levels = size_passed _ _ _ c.in_ok-size_checks.was c.size_checks.ensures in
     let behind : let a = c.args in
     refuse_if (not (fits_window a.height a.width a.v)) 17
     (refuse_if (not (is_framed (strip_of c.args.height c.args.width c.args.levels c.args.plane.now c.args.coverings.now) && is_plane a.v.tall a.v.wide a.samples.now)) 3
     (refuse_if (not (is_numbered (strip_of c.args.height c.args.width c.args.levels c.args.plane.now c.args.coverings.now))) 5
     (refuse_if (not (is_ranged (strip_of c.args.height c.args.width c.args.levels c.args.plane.now c.args.coverings.now))) 6 0)))
-    ≡ window_refusal (strip_of c.args.height c.args.width c.args.levels c.args.plane.now c.args.coverings.now) a.v a.samples.now = front_passed _ c.in_default.is (c.size_checks-sized.ensures _) in
+    ≡ window_refusal (strip_of c.args.height c.args.width c.args.levels c.args.plane.now c.args.coverings.now) a.v a.samples.now = front_passed _ c.in_ok-size_checks.was (c.size_checks.ensures _) in
     good
 
-pub size_checks-sized-requires : goal.size_checks-sized-requires
-size_checks-sized-requires c = tt
-
-pub returns-in-Refused : goal.returns-in-Refused
-returns-in-Refused c = front_refused c.in-Refused.r _ c.in-Refused.is (c.size_checks-sized.ensures _)
+pub size_checks-requires : goal.size_checks-requires
+size_checks-requires c = tt
 
 pub is_within-requires : goal.is_within-requires
 is_within-requires c = tt
@@ -52,49 +55,29 @@ is_within-requires-2 c = tt
 
 pub returns-then-not-fits : goal.returns-then-not-fits
 returns-then-not-fits c =
-    let behind : let a = c.args in
-    refuse_if (not (fits_window a.height a.width a.v)) 17
-    (refuse_if (not (is_framed (strip_of c.args.height c.args.width c.args.levels c.args.plane.now c.args.coverings.now) && is_plane a.v.tall a.v.wide a.samples.now)) 3
-    (refuse_if (not (is_numbered (strip_of c.args.height c.args.width c.args.levels c.args.plane.now c.args.coverings.now))) 5
-    (refuse_if (not (is_ranged (strip_of c.args.height c.args.width c.args.levels c.args.plane.now c.args.coverings.now))) 6 0)))
-    ≡ window_refusal (strip_of c.args.height c.args.width c.args.levels c.args.plane.now c.args.coverings.now) a.v a.samples.now = front_passed _ c.in_default.is (c.size_checks-sized.ensures _) in
-    rw (← behind, ← c.is_within.ensures, ← c.is_within-2.ensures, c.if-not-fits.true)
+    rw (← (behind (goal.at.returns-then-not-fits c).In_ok-size_checks), ← c.is_within.ensures, ← c.is_within-2.ensures, c.if-not-fits.true)
 
 pub is_framed-requires : goal.is_framed-requires
 is_framed-requires c =
-    let good : let a = c.args in Passed a.height a.width a.levels = size_passed _ _ _ c.in_default.is c.size_checks-sized.ensures in
-    let z = good in (z.tall, z.wide, z.few)
+    let z = (good (goal.at.is_framed-requires c).In_ok-size_checks) in (z.tall, z.wide, z.few)
 
 pub overflow_mul-framed : goal.overflow_mul-framed
 overflow_mul-framed c =
-    let good : let a = c.args in Passed a.height a.width a.levels = size_passed _ _ _ c.in_default.is c.size_checks-sized.ensures in
     let fits : let a = c.args in Inside a.v a.height a.width = let a = c.args in
     inside a.height a.width a.v (truth {b = fits_window a.height a.width a.v} (rw (← c.is_within.ensures, ← c.is_within-2.ensures) c.if-not-fits.false)) in
-    let i = fits in let z = good in omega (arith, mul-le-mul (wide_most i z) (tall_most i z))
+    let i = fits in let z = (good (goal.at.overflow_mul-framed c).In_ok-size_checks) in omega (arith, mul-le-mul (wide_most i z) (tall_most i z))
 
 pub returns-then-not-framed : goal.returns-then-not-framed
 returns-then-not-framed c =
-    let behind : let a = c.args in
-    refuse_if (not (fits_window a.height a.width a.v)) 17
-    (refuse_if (not (is_framed (strip_of c.args.height c.args.width c.args.levels c.args.plane.now c.args.coverings.now) && is_plane a.v.tall a.v.wide a.samples.now)) 3
-    (refuse_if (not (is_numbered (strip_of c.args.height c.args.width c.args.levels c.args.plane.now c.args.coverings.now))) 5
-    (refuse_if (not (is_ranged (strip_of c.args.height c.args.width c.args.levels c.args.plane.now c.args.coverings.now))) 6 0)))
-    ≡ window_refusal (strip_of c.args.height c.args.width c.args.levels c.args.plane.now c.args.coverings.now) a.v a.samples.now = front_passed _ c.in_default.is (c.size_checks-sized.ensures _) in
-    rw (← behind, ← c.is_within.ensures, ← c.is_within-2.ensures, c.if-not-fits.false, ← c.is_framed.ensures, c.if-not-framed.true)
+    rw (← (behind (goal.at.returns-then-not-framed c).In_ok-size_checks), ← c.is_within.ensures, ← c.is_within-2.ensures, c.if-not-fits.false, ← c.is_framed.ensures, c.if-not-framed.true)
 
 pub all_numbers-requires : goal.all_numbers-requires
 all_numbers-requires c = tt
 
 pub returns-then-not-all_numbers : goal.returns-then-not-all_numbers
 returns-then-not-all_numbers c =
-    let behind : let a = c.args in
-    refuse_if (not (fits_window a.height a.width a.v)) 17
-    (refuse_if (not (is_framed (strip_of c.args.height c.args.width c.args.levels c.args.plane.now c.args.coverings.now) && is_plane a.v.tall a.v.wide a.samples.now)) 3
-    (refuse_if (not (is_numbered (strip_of c.args.height c.args.width c.args.levels c.args.plane.now c.args.coverings.now))) 5
-    (refuse_if (not (is_ranged (strip_of c.args.height c.args.width c.args.levels c.args.plane.now c.args.coverings.now))) 6 0)))
-    ≡ window_refusal (strip_of c.args.height c.args.width c.args.levels c.args.plane.now c.args.coverings.now) a.v a.samples.now = front_passed _ c.in_default.is (c.size_checks-sized.ensures _) in
     rw (
-      ← behind,
+      ← (behind (goal.at.returns-then-not-all_numbers c).In_ok-size_checks),
       ← c.is_within.ensures,
       ← c.is_within-2.ensures,
       c.if-not-fits.false,
@@ -120,14 +103,8 @@ in_range-requires c =
 
 pub returns-then-not-in_range : goal.returns-then-not-in_range
 returns-then-not-in_range c =
-    let behind : let a = c.args in
-    refuse_if (not (fits_window a.height a.width a.v)) 17
-    (refuse_if (not (is_framed (strip_of c.args.height c.args.width c.args.levels c.args.plane.now c.args.coverings.now) && is_plane a.v.tall a.v.wide a.samples.now)) 3
-    (refuse_if (not (is_numbered (strip_of c.args.height c.args.width c.args.levels c.args.plane.now c.args.coverings.now))) 5
-    (refuse_if (not (is_ranged (strip_of c.args.height c.args.width c.args.levels c.args.plane.now c.args.coverings.now))) 6 0)))
-    ≡ window_refusal (strip_of c.args.height c.args.width c.args.levels c.args.plane.now c.args.coverings.now) a.v a.samples.now = front_passed _ c.in_default.is (c.size_checks-sized.ensures _) in
     rw (
-      ← behind,
+      ← (behind (goal.at.returns-then-not-in_range c).In_ok-size_checks),
       ← c.is_within.ensures,
       ← c.is_within-2.ensures,
       c.if-not-fits.false,
@@ -141,14 +118,8 @@ returns-then-not-in_range c =
 
 pub returns : goal.returns
 returns c =
-    let behind : let a = c.args in
-    refuse_if (not (fits_window a.height a.width a.v)) 17
-    (refuse_if (not (is_framed (strip_of c.args.height c.args.width c.args.levels c.args.plane.now c.args.coverings.now) && is_plane a.v.tall a.v.wide a.samples.now)) 3
-    (refuse_if (not (is_numbered (strip_of c.args.height c.args.width c.args.levels c.args.plane.now c.args.coverings.now))) 5
-    (refuse_if (not (is_ranged (strip_of c.args.height c.args.width c.args.levels c.args.plane.now c.args.coverings.now))) 6 0)))
-    ≡ window_refusal (strip_of c.args.height c.args.width c.args.levels c.args.plane.now c.args.coverings.now) a.v a.samples.now = front_passed _ c.in_default.is (c.size_checks-sized.ensures _) in
     rw (
-      ← behind,
+      ← (behind (goal.at.returns c).In_ok-size_checks),
       ← c.is_within.ensures,
       ← c.is_within-2.ensures,
       c.if-not-fits.false,

@@ -43,7 +43,7 @@ by_labels-pieces-requires t c =
 pub values-values-requires : goal.values-values-requires
 values-values-requires t c =
     let p = c.requires.restorable in
-    record { cells_value = c.requires.cells_value; k_in_bounds = values_asked p.0 p.1 }
+    values_asked p.0 p.1
 
 pub store_block-requires : goal.store_block-requires
 store_block-requires t c =
@@ -90,7 +90,7 @@ fill-requires t c =
     let r = c.child-below.ensures in
     let q = asked (below k c.loop-q.q) a.coverings.now a.plane.now r.0 a.unit p.0 r.1 p.2 (c.quarter-quad.ensures _ _ _ valued) in (
       omega (arith, ap (λ (n : Node). n.level) r.0, c.decreases, p.1.some, c.if-k-eq1.false),
-      (c.requires.cells_value, (q.0, (q.1, (c.requires.inside.0, c.loop-q.invariant.1.long ∙ c.requires.inside.1)))),
+      (q.0, (q.1, (c.requires.inside.0, c.loop-q.invariant.1.long ∙ c.requires.inside.1))),
     )
 
 pub loop-q-preserved : goal.loop-q-preserved

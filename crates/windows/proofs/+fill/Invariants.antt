@@ -12,6 +12,3 @@ abbrev pub invariant-loop-q : goal.invariant-loop-q
 invariant-loop-q l =
     (l.q ≤ 4) × Kept l.v (sample_at l.k.levels l.k.height l.k.width l.coverings l.plane) l.initial.samples l.samples
     × ((p : ℕ) → p < l.q → AllIn (l.k.level - 1 - 1) (Shown l.v (sample_at l.k.levels l.k.height l.k.width l.coverings l.plane) l.samples) (l.k.i * 2 + p % 2) (l.k.j * 2 + p / 2))
-
-abbrev pub decreases-loop-q : goal.decreases-loop-q
-decreases-loop-q l = 4 - l.q

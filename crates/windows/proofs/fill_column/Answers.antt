@@ -36,8 +36,14 @@ block_of-last-requires c = let p = c.requires.restorable in omega (arith, p.0.mo
 pub overflow_sub-levels-2 : goal.overflow_sub-levels-2
 overflow_sub-levels-2 c = let p = c.requires.restorable in omega (arith, p.0.some)
 
-pub block_of-i-requires : goal.block_of-i-requires
-block_of-i-requires c = let p = c.requires.restorable in omega (arith, p.0.most)
+pub block_of-first-requires : goal.block_of-first-requires
+block_of-first-requires c = let p = c.requires.restorable in omega (arith, p.0.most)
+
+pub overflow_add-i-end : goal.overflow_add-i-end
+overflow_add-i-end c =
+    let a = c.args in
+    let p = c.requires.restorable in
+    omega (arith, c.block_of-last.ensures, cell_below (a.levels - 1) a.height (a.v.top + a.v.tall - 1) (down (a.levels - 1) a.levels a.height a.width (omega (arith, p.0.some)) p.0.fits) (omega (arith, p.1.down, p.1.some_rows)), halved_le (a.levels - 1) a.height, p.0.height)
 
 pub loop-i-init : goal.loop-i-init
 loop-i-init c = (kept_refl _ _ _, λ p l f. absurd (omega arith))
@@ -62,14 +68,7 @@ fill-requires c =
     let k = c.first_node-k.ensures in
     let q = asked (block_at a.levels a.height a.width a.levels c.loop-i.i a.j) a.coverings.now a.plane.now k.0 a.unit p.0 k.1 c.requires.j_bound.1
     (values_last a.levels a.height a.width a.coverings.now a.plane.now c.loop-i.i a.j c.last-low.ensures) in
-    record { cells_value = c.requires.cells_value; restorable = q.0; low_value = q.1; inside = (inside_most a.v a.height a.width p.1 p.0.height p.0.width, c.loop-i.invariant.0.long ∙ p.2) }
-
-pub overflow_add-i : goal.overflow_add-i
-overflow_add-i c =
-    omega (arith, row (goal.at.overflow_add-i c).In-loop-i, halved_le (c.args.levels - 1) c.args.height, c.requires.restorable.0.height)
-
-pub loop-i-smaller : goal.loop-i-smaller
-loop-i-smaller c = omega (arith, c.loop-i-test.true)
+    record { restorable = q.0; low_value = q.1; inside = (inside_most a.v a.height a.width p.1 p.0.height p.0.width, c.loop-i.invariant.0.long ∙ p.2) }
 
 pub loop-i-preserved : goal.loop-i-preserved
 loop-i-preserved c =

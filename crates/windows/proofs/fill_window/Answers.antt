@@ -10,9 +10,6 @@ use Rattle.windows.proofs.Filling.{kept_refl, kept_trans}
 use borrow.Author.Count.{below_more}
 use Rattle.windows.proofs.fill_window.Goals as goal
 
-pub cells-cells-requires : goal.cells-cells-requires
-cells-cells-requires c = tt
-
 pub power-unit-requires : goal.power-unit-requires
 power-unit-requires c = c.requires.restorable.most
 
@@ -31,8 +28,15 @@ block_of-last-requires c = omega (arith, c.requires.restorable.most)
 pub overflow_sub-levels-2 : goal.overflow_sub-levels-2
 overflow_sub-levels-2 c = omega (arith, c.requires.restorable.some)
 
-pub block_of-j-requires : goal.block_of-j-requires
-block_of-j-requires c = omega (arith, c.requires.restorable.most)
+pub block_of-first-requires : goal.block_of-first-requires
+block_of-first-requires c = omega (arith, c.requires.restorable.most)
+
+pub overflow_add-j-end : goal.overflow_add-j-end
+overflow_add-j-end c =
+    let a = c.args in
+    let p = c.requires.restorable in
+    let i = c.requires.inside.0 in
+    omega (arith, c.block_of-last.ensures, cell_below (a.levels - 1) a.width (a.v.left + a.v.wide - 1) (across (a.levels - 1) a.levels a.height a.width (omega (arith, p.some)) p.fits) (omega (arith, i.across, i.some_columns)), halved_le (a.levels - 1) a.width, p.width)
 
 pub loop-j-init : goal.loop-j-init
 loop-j-init c = (kept_refl _ _ _, λ p l f. absurd (omega arith))
@@ -43,18 +47,7 @@ fill_column-requires c =
     let p = c.requires.restorable in
     let i = c.requires.inside.0 in
     let col : c.loop-j.j < halved (a.levels - 1) a.width / 4 = omega (arith, c.loop-j-test.true, c.block_of-last.ensures, cell_below (a.levels - 1) a.width (a.v.left + a.v.wide - 1) (across (a.levels - 1) a.levels a.height a.width (omega (arith, p.some)) p.fits) (omega (arith, i.across, i.some_columns))) in
-    record { cells_value = c.cells-cells.ensures; restorable = (p, i, c.loop-j.invariant.0.long ∙ c.requires.inside.1); j_bound = (col, c.power-unit.ensures) }
-
-pub overflow_add-j : goal.overflow_add-j
-overflow_add-j c =
-    let a = c.args in
-    let p = c.requires.restorable in
-    let i = c.requires.inside.0 in
-    let col : c.loop-j.j < halved (a.levels - 1) a.width / 4 = omega (arith, c.loop-j-test.true, c.block_of-last.ensures, cell_below (a.levels - 1) a.width (a.v.left + a.v.wide - 1) (across (a.levels - 1) a.levels a.height a.width (omega (arith, p.some)) p.fits) (omega (arith, i.across, i.some_columns))) in
-    omega (arith, col, halved_le (a.levels - 1) a.width, p.width)
-
-pub loop-j-smaller : goal.loop-j-smaller
-loop-j-smaller c = omega (arith, c.loop-j-test.true)
+    record { restorable = (p, i, c.loop-j.invariant.0.long ∙ c.requires.inside.1); j_bound = (col, c.power-unit.ensures) }
 
 pub loop-j-preserved : goal.loop-j-preserved
 loop-j-preserved c =

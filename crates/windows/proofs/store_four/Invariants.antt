@@ -1,6 +1,6 @@
 -- `windows::store_four` meets its contract. Assumes nothing.
 use mathlib.Core.Path.{◌≡◌}
-use Prim.Native.Nat.{ℕ, ◌+◌, ◌*◌, ◌-◌, ◌/◌, ◌<◌, ◌≤◌}
+use Prim.Native.Nat.{ℕ, ◌+◌, ◌*◌, ◌/◌, ◌<◌, ◌≤◌}
 use lib.ListN.{length}
 use Rattle.pyramid.specs.Plane.{Image}
 use Rattle.pyramid.specs.Behind.{block_list}
@@ -12,6 +12,3 @@ abbrev pub invariant-loop-r : goal.invariant-loop-r
 invariant-loop-r l =
     (l.r ≤ 4) × (length l.samples ≡ length l.initial.samples)
     × ((A : Image) → l.values ≡ block_list A l.i (l.x / 4) → Kept l.v (rounded l.levels A) l.initial.samples l.samples × ((a : ℕ) → a < l.r → Shown l.v (rounded l.levels A) l.samples (l.i * 4 + a) l.x))
-
-abbrev pub decreases-loop-r : goal.decreases-loop-r
-decreases-loop-r l = 4 - l.r

@@ -4,7 +4,6 @@ use mathlib.Core.Bool.{Bool, true, false, ◌&&◌}
 use Prim.Native.Nat.{ℕ, ◌+◌, ◌*◌, ◌-◌, ◌/◌}
 use native.Mathlib.Nat.{add-zero}
 use native.Mathlib.Omega.{arith}
-use borrow.Author.Tests.{not-true, not-false}
 use lib.ListN.{length, drop}
 use Rattle.words.specs.Words.{agree}
 use Rattle.words.proofs.Packed.{agree_word, agree_none}
@@ -17,9 +16,6 @@ loop-i-init c =
     let e : n - 0 ≡ n = omega arith in
     (omega arith, refl, λ i. agree (e i) (drop (add-zero a.at i) a.s.now) a.t.now)
 
-pub same_word-requires : goal.same_word-requires
-same_word-requires c = (omega arith, omega arith)
-
 pub returns-then-not-same_word : goal.returns-then-not-same_word
 returns-then-not-same_word c =
     let a = c.args in
@@ -27,9 +23,6 @@ returns-then-not-same_word c =
     let n = length a.t.now / 8 * 8 in
     let f : agree 8 (drop (a.at + i) a.s.now) (drop i a.t.now) ≡ false = sym c.same_word.ensures ∙ c.if-not-same_word.true in
     sym (sym c.loop-i.invariant.2 ∙ agree_word (n - i) (n - (i + 8)) a.s.now a.t.now (a.at + i) i (omega arith) ∙ ap (λ (b : Bool). b && agree (n - (i + 8)) (drop (a.at + i + 8) a.s.now) (drop (i + 8) a.t.now)) f)
-
-pub loop-i-smaller : goal.loop-i-smaller
-loop-i-smaller c = omega arith
 
 pub loop-i-preserved : goal.loop-i-preserved
 loop-i-preserved c =

@@ -1,112 +1,44 @@
 -- `calibration::search::first_choice` meets its contract. Each loop's invariant: the first of the choices that are left is the first of all. Assumes nothing.
 use mathlib.Core.Path.{sym, ap, ◌∙◌}
-use Prim.Native.Nat.{◌-◌}
 use native.Mathlib.Omega.{arith}
-use borrow.Author.Rules.{rules}
-use lib.ListN.{get_or}
 use Rattle.calibration.specs.Card.{shows, first, chosen_steps}
 use Rattle.calibration.proofs.Turns.{start, enter1, enter2, enter3, next, leave0, leave1, leave2, leave3, moved, hit, miss}
 use Rattle.calibration.proofs.search.first_choice.Goals as goal
 
-pub search-init : goal.search-init
+pub loop-zeroth-init : goal.loop-zeroth-init
 unfolding chosen_steps
-search-init c = (search rules, search rules, ap (first (shows c.args.covering)) (start c.args.steps.now))
+loop-zeroth-init c = ap (first (shows c.args.covering)) (start c.args.steps.now)
 
-pub loop-b-init : goal.loop-b-init
-loop-b-init c =
-    let x = c.args in (
-      search rules,
-      omega arith,
-      search rules,
-      moved (shows x.covering) (enter1 x.steps.now c.search.a (omega arith)) c.search.invariant.2,
-    )
+pub loop-first-init : goal.loop-first-init
+loop-first-init c = moved (shows c.args.covering) (enter1 c.args.steps.now c.loop-zeroth.zeroth-index (omega arith)) c.loop-zeroth.invariant
 
-pub loop-c-init : goal.loop-c-init
-loop-c-init c =
-    let x = c.args in
-    let l = x.steps.now in (
-      search rules,
-      search rules,
-      omega arith,
-      search rules,
-      moved (shows x.covering) (enter2 l c.search.a (get_or l c.search.a 0) c.loop-b.b (omega arith)) c.loop-b.invariant.3,
-    )
+pub loop-second-init : goal.loop-second-init
+loop-second-init c = moved (shows c.args.covering) (enter2 c.args.steps.now c.loop-zeroth.zeroth-index _ c.loop-first.first-index (omega arith)) c.loop-first.invariant
 
-pub loop-d-init : goal.loop-d-init
-loop-d-init c =
-    let x = c.args in
-    let l = x.steps.now in (
-      search rules,
-      search rules,
-      search rules,
-      omega arith,
-      search rules,
-      moved (shows x.covering) (enter3 l c.search.a (get_or l c.search.a 0) c.loop-b.b (get_or l c.loop-b.b 0) c.loop-c.c (omega arith)) c.loop-c.invariant.4,
-    )
+pub loop-third-init : goal.loop-third-init
+loop-third-init c =
+    moved (shows c.args.covering) (enter3 c.args.steps.now c.loop-zeroth.zeroth-index _ c.loop-first.first-index _ c.loop-second.second-index (omega arith)) c.loop-second.invariant
 
-pub loop-d-preserved : goal.loop-d-preserved
-loop-d-preserved c =
-    let x = c.args in
-    let l = x.steps.now in
-    let a = c.search.a in
-    let b = c.loop-b.b in
-    let e = c.loop-c.c in
-    let d = c.loop-d.d in (
-      search rules,
-      search rules,
-      search rules,
-      search rules,
-      omega arith,
-      miss (shows x.covering) (next l a (get_or l a 0) b (get_or l b 0) e (get_or l e 0) d (omega arith)) c.loop-d.invariant.5 (sym c.shows.ensures ∙ c.if-shows.false),
-    )
+pub loop-third-preserved : goal.loop-third-preserved
+loop-third-preserved c =
+    miss (shows c.args.covering) (next c.args.steps.now c.loop-zeroth.zeroth-index _ c.loop-first.first-index _ c.loop-second.second-index _ c.loop-third.third-index (omega arith)) c.loop-third.invariant
+    (sym c.shows.ensures ∙ c.if-shows.false)
 
-pub loop-c-preserved : goal.loop-c-preserved
-loop-c-preserved c =
-    let x = c.args in
-    let l = x.steps.now in
-    let a = c.search.a in
-    let b = c.loop-b.b in
-    let e = c.loop-c.c in (
-      search rules,
-      search rules,
-      search rules,
-      omega arith,
-      moved (shows x.covering) (leave3 l a (get_or l a 0) b (get_or l b 0) e (get_or l e 0) c.loop-d.d (omega arith)) c.loop-d.invariant.5,
-    )
+pub loop-second-preserved : goal.loop-second-preserved
+loop-second-preserved c =
+    moved (shows c.args.covering) (leave3 c.args.steps.now c.loop-zeroth.zeroth-index _ c.loop-first.first-index _ c.loop-second.second-index _ c.loop-third.third-index (omega arith)) c.loop-third.invariant
 
-pub loop-b-preserved : goal.loop-b-preserved
-loop-b-preserved c =
-    let x = c.args in
-    let l = x.steps.now in
-    let a = c.search.a in
-    let b = c.loop-b.b in (
-      search rules,
-      search rules,
-      omega arith,
-      moved (shows x.covering) (leave2 l a (get_or l a 0) b (get_or l b 0) c.loop-c.c (omega arith)) c.loop-c.invariant.4,
-    )
+pub loop-first-preserved : goal.loop-first-preserved
+loop-first-preserved c =
+    moved (shows c.args.covering) (leave2 c.args.steps.now c.loop-zeroth.zeroth-index _ c.loop-first.first-index _ c.loop-second.second-index (omega arith)) c.loop-second.invariant
 
-pub search-preserved : goal.search-preserved
-search-preserved c =
-    let x = c.args in
-    let l = x.steps.now in
-    let a = c.search.a in (
-      search rules,
-      omega arith,
-      moved (shows x.covering) (leave1 l a (get_or l a 0) c.loop-b.b (omega arith)) c.loop-b.invariant.3,
-    )
-
-pub returns-then-a-n : goal.returns-then-a-n
-returns-then-a-n c =
-    let x = c.args in
-    moved (shows x.covering) (leave0 x.steps.now c.search.a (omega arith)) c.search.invariant.2
+pub loop-zeroth-preserved : goal.loop-zeroth-preserved
+loop-zeroth-preserved c = moved (shows c.args.covering) (leave1 c.args.steps.now c.loop-zeroth.zeroth-index _ c.loop-first.first-index (omega arith)) c.loop-first.invariant
 
 pub returns-then-shows : goal.returns-then-shows
 returns-then-shows c =
-    let x = c.args in
-    let l = x.steps.now in
-    let a = c.search.a in
-    let b = c.loop-b.b in
-    let e = c.loop-c.c in
-    let d = c.loop-d.d in
-    hit (shows x.covering) (next l a (get_or l a 0) b (get_or l b 0) e (get_or l e 0) d (omega arith)) c.loop-d.invariant.5 (sym c.shows.ensures ∙ c.if-shows.true)
+    hit (shows c.args.covering) (next c.args.steps.now c.loop-zeroth.zeroth-index _ c.loop-first.first-index _ c.loop-second.second-index _ c.loop-third.third-index (omega arith)) c.loop-third.invariant
+    (sym c.shows.ensures ∙ c.if-shows.true)
+
+pub returns-after-loop-zeroth : goal.returns-after-loop-zeroth
+returns-after-loop-zeroth c = moved (shows c.args.covering) (leave0 c.args.steps.now c.loop-zeroth.zeroth-index (omega arith)) c.loop-zeroth.invariant

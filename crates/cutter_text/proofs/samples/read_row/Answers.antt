@@ -7,7 +7,7 @@ use lib.ListN.{drop, length-set}
 use Rattle.integers.proofs.Index.{index_bound}
 use Rattle.text.specs.Text.{row}
 use Rattle.cutter_text.specs.Forms.{plains}
-use Rattle.cutter_text.specs.Rows.{row_of}
+use Rattle.cutter_text.specs.Rows.{row_of, passed}
 use Rattle.cutter_text.proofs.Stores.{row_again, row_stop, row_done}
 use Rattle.cutter_text.proofs.samples.read_row.Goals as goal
 
@@ -20,33 +20,34 @@ loop-x-init c =
     let z : a.width - 0 ≡ a.width = omega arith in
     (omega arith, c.requires.3, ap (λ (j : ℕ). row_of a.height a.y 0 a.samples.now (row (plains j) (drop a.at a.s.now))) z)
 
-pub returns-in_default : goal.returns-in_default
-returns-in_default c =
+pub returns-in_err-v : goal.returns-in_err-v
+returns-in_err-v c =
     let a = c.args in
     let l = c.loop-x in
-    sym (row_stop a.height a.width a.y l.x l.samples a.s.now l.p c.loop-x-test.true c.end_of-end.result c.end_of-end.ensures (sym c.read_size.ensures ∙ c.in_default.is))
+    ap (λ o. passed o a.s.now l.samples) c.from_residual.ensures
+    ∙ sym (row_stop a.height a.width a.y l.x l.samples a.s.now l.p c.loop-x-test.true c.end_of.result c.end_of.ensures (sym c.in_err-v.ensures))
     ∙ l.invariant.2
 
-pub overflow_mul-k : goal.overflow_mul-k
-overflow_mul-k c =
+pub overflow_mul-samples : goal.overflow_mul-samples
+overflow_mul-samples c =
     let a = c.args in
     let r = room a.height a.width a.y c.loop-x.x c.loop-x-test.true c.requires.0 c.requires.1 c.requires.2 in
     omega (arith, r.0, r.1)
 
-pub overflow_add-k : goal.overflow_add-k
-overflow_add-k c =
+pub overflow_add-samples : goal.overflow_add-samples
+overflow_add-samples c =
     let a = c.args in
     let r = room a.height a.width a.y c.loop-x.x c.loop-x-test.true c.requires.0 c.requires.1 c.requires.2 in
     omega (arith, r.0, r.1)
 
-pub offset_bounds-samples-k : goal.offset_bounds-samples-k
-offset_bounds-samples-k c =
+pub offset_bounds-samples-x : goal.offset_bounds-samples-x
+offset_bounds-samples-x c =
     let a = c.args in
     let r = room a.height a.width a.y c.loop-x.x c.loop-x-test.true c.requires.0 c.requires.1 c.requires.2 in
     omega (arith, r.0, r.1)
 
-pub bounds-samples-k : goal.bounds-samples-k
-bounds-samples-k c =
+pub bounds-samples-x : goal.bounds-samples-x
+bounds-samples-x c =
     let a = c.args in
     let r = room a.height a.width a.y c.loop-x.x c.loop-x-test.true c.requires.0 c.requires.1 c.requires.2 in
     omega (arith, r.0, c.loop-x.invariant.1)
@@ -58,7 +59,7 @@ loop-x-preserved c =
     let t = c.loop-x-test.true in (
       omega (arith, t),
       length-set l.samples (l.x * a.height + a.y) c.hold.result ∙ l.invariant.1,
-      row_again a.height a.width a.y l.x l.samples a.s.now l.p t c.end_of-end.result c.in-Of.v c.in-Of.next c.hold.result c.end_of-end.ensures (sym c.read_size.ensures ∙ c.in-Of.is) c.hold.ensures
+      row_again a.height a.width a.y l.x l.samples a.s.now l.p t c.end_of.result c.in_ok-v.v c.in_ok-v.next c.hold.result c.end_of.ensures (sym c.in_ok-v.ensures) c.hold.ensures
           ∙ l.invariant.2,
     )
 

@@ -9,6 +9,3 @@ use Rattle.cutter_text.proofs.samples.read_row.Given as goal
 
 abbrev pub invariant-loop-x : goal.invariant-loop-x
 invariant-loop-x l = (l.x ≤ l.width) × (length l.samples ≡ l.width * l.height) × (row_of l.height l.y l.x l.samples (row (plains (l.width - l.x)) (drop l.p l.s)) ≡ row_of l.height l.y 0 l.initial.samples (row (plains l.width) (drop l.at l.s)))
-
-abbrev pub decreases-loop-x : goal.decreases-loop-x
-decreases-loop-x l = l.width - l.x

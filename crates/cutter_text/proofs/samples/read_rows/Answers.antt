@@ -18,11 +18,12 @@ loop-y-init c =
 pub read_row-requires : goal.read_row-requires
 read_row-requires c = (c.loop-y-test.true, c.requires.0, c.requires.1, c.loop-y.invariant.1)
 
-pub returns-in_default : goal.returns-in_default
-returns-in_default c =
+pub returns-in_err-p : goal.returns-in_err-p
+returns-in_err-p c =
     let l = c.loop-y in
     let a = c.args in
-    sym (rows_stop a.height a.width l.y l.samples a.s.now l.p c.loop-y-test.true (ap (λ o. passed o a.s.now c.read_row.new.samples) (sym c.in_default.is) ∙ c.read_row.ensures))
+    ap (λ o. passed o a.s.now c.read_row.new.samples) c.from_residual.ensures
+    ∙ sym (rows_stop a.height a.width l.y l.samples a.s.now l.p c.loop-y-test.true c.in_err-p.ensures)
     ∙ l.invariant.2
 
 pub loop-y-preserved : goal.loop-y-preserved
@@ -32,7 +33,7 @@ loop-y-preserved c =
     let t = c.loop-y-test.true in (
       omega (arith, t),
       c.read_row.auto.samples ∙ l.invariant.1,
-      rows_again a.height a.width l.y l.samples a.s.now l.p t c.read_row.new.samples c.in-To.next (ap (λ o. passed o a.s.now c.read_row.new.samples) (sym c.in-To.is) ∙ c.read_row.ensures)
+      rows_again a.height a.width l.y l.samples a.s.now l.p t c.read_row.new.samples c.in_ok-p.p c.in_ok-p.ensures
           ∙ l.invariant.2,
     )
 

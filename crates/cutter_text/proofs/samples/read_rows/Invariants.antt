@@ -9,6 +9,3 @@ use Rattle.cutter_text.proofs.samples.read_rows.Given as goal
 
 abbrev pub invariant-loop-y : goal.invariant-loop-y
 invariant-loop-y l = (l.y ≤ l.height) × (length l.samples ≡ l.width * l.height) × (rows_of l.height l.y l.samples (times (l.height - l.y) (plains l.width) (drop l.p l.s)) ≡ rows_of l.height 0 l.initial.samples (times l.height (plains l.width) (drop l.at l.s)))
-
-abbrev pub decreases-loop-y : goal.decreases-loop-y
-decreases-loop-y l = l.height - l.y

@@ -13,7 +13,7 @@ is : (cells : List ℕ) (covering k : ℕ) → cells ≡ cell_table → Number c
 is cells covering k e n l = ap (λ (t : List ℕ). get_or t ((covering - 1) * 16 + k) 0) e ∙ cell_entry covering k n l
 
 pub overflow_cast-result : goal.overflow_cast-result
-overflow_cast-result c = omega (arith, is c.args.cells.now c.args.covering c.args.k c.requires.0 c.requires.1 c.requires.2, cell_below c.args.covering c.args.k)
+overflow_cast-result c = omega (arith, is c.cells.result.now c.args.covering c.args.k c.cells.ensures c.requires.0 c.requires.1, cell_below c.args.covering c.args.k)
 
 pub returns : goal.returns
-returns c = let e = is c.args.cells.now c.args.covering c.args.k c.requires.0 c.requires.1 c.requires.2 in (e, omega (arith, e, cell_below c.args.covering c.args.k))
+returns c = let e = is c.cells.result.now c.args.covering c.args.k c.cells.ensures c.requires.0 c.requires.1 in (e, omega (arith, e, cell_below c.args.covering c.args.k))

@@ -9,17 +9,17 @@ use Rattle.kernel.proofs.transform.piece.Goals as goal
 
 pub signed_sums-requires : goal.signed_sums-requires
 signed_sums-requires c = (
-  small_within c.args.v.now c.requires.3 _ c.cell_at-a.ensures.1,
-  small_within c.args.v.now c.requires.3 _ c.cell_at-b.ensures.1,
-  small_within c.args.v.now c.requires.3 _ c.cell_at-c.ensures.1,
-  small_within c.args.v.now c.requires.3 _ c.cell_at-d.ensures.1,
+  small_within c.args.v.now c.requires.2 _ c.cell_at-a.ensures.1,
+  small_within c.args.v.now c.requires.2 _ c.cell_at-b.ensures.1,
+  small_within c.args.v.now c.requires.2 _ c.cell_at-c.ensures.1,
+  small_within c.args.v.now c.requires.2 _ c.cell_at-d.ensures.1,
 )
 
 pub returns : goal.returns
 unfolding forward
 returns c =
     let x = c.args in
-    let h = c.requires.3 in
+    let h = c.requires.2 in
     let w = word_of x.covering in
     summed (values_of (shapes_of w (place_in x.label (labels_of w))) (at x.v.now))
     (piece_value x.covering x.label 0 _ _ x.v.now h (omega arith) (omega arith) c.cell_at-a.ensures)

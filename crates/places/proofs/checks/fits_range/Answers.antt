@@ -25,9 +25,6 @@ returns-then-k-eq0 c =
     let n : lt_z c.args.v (pos 0) ≡ false = rw (to_z-of_z c.ranges.v) at c.if-v-lt0.false in
     (λ i. leb (m_is i) (4095 * c.power.ensures i)) ∙ low_from c.args.levels (entry_of c.args.k) c.args.v (omega arith) n
 
-pub overflow_sub-p : goal.overflow_sub-p
-overflow_sub-p c = omega arith
-
 pub overflow_mul-result-2 : goal.overflow_mul-result-2
 overflow_mul-result-2 c = omega (arith, power_small (c.args.k.level - 1) (omega arith))
 

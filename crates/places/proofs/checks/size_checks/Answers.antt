@@ -8,9 +8,6 @@ use Rattle.places.proofs.checks.size_checks.Goals as goal
 sided : (c : goal.Else-not-are_sides) → let a = c.args in is_sides a.height a.width ≡ true
 sided c = sym c.are_sides.ensures ∙ c.if-not-are_sides.false
 
-pub are_sides-requires : goal.are_sides-requires
-are_sides-requires c = tt
-
 pub returns-then-not-are_sides : goal.returns-then-not-are_sides
 returns-then-not-are_sides c = λ rest. rw (← c.are_sides.ensures, c.if-not-are_sides.true)
 

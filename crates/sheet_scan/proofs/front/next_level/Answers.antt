@@ -1,10 +1,9 @@
 -- `sheet_scan::front::next_level` meets its contract. Assumes nothing.
 use mathlib.Core.Path.{◌≡◌, sym, subst}
-use Prim.Native.Nat.{ℕ, suc, ◌+◌, ◌*◌, ◌-◌, ◌/◌, ◌≤◌}
-use native.Mathlib.Nat.{mul-le-mul}
+use Prim.Native.Nat.{ℕ, suc, ◌+◌, ◌*◌, ◌-◌, ◌/◌}
 use native.Mathlib.Omega.{arith}
 use Rattle.sheet_scan.specs.Front.{LevelPassed}
-use Rattle.sheet_scan.proofs.Fronts.{small, to_none, to_last, to_next}
+use Rattle.sheet_scan.proofs.Fronts.{to_none, to_last, to_next}
 use Rattle.sheet_scan.proofs.front.next_level.Goals as goal
 
 pub returns-then-k-eq1 : goal.returns-then-k-eq1

@@ -1,28 +1,25 @@
 -- `sheet_scan::scan::look_along` meets its contract: what was found so far, and what is left. Assumes nothing.
-use mathlib.Core.Path.{◌≡◌, refl, sym, ap, ◌∙◌, subst}
+use mathlib.Core.Path.{◌≡◌, sym, ap, ◌∙◌, subst}
 use mathlib.Core.List.{◌∷◌, ◌++◌}
-use Prim.Native.Nat.{◌+◌, ◌<◌}
+use Prim.Native.Nat.{◌<◌}
 use native.Mathlib.Omega.{arith}
-use Rattle.text.specs.Lines.{five, lines_at, fives_at}
-use Rattle.text.proofs.Many.{FiveLine, RowRead, five_none, five_line, five_at_law, lines_stop, past_stop, past_next}
+use Rattle.text.specs.Lines.{five, lines_at, fives_at, RowRead}
+use Rattle.text.proofs.Many.{FiveLine, five_none, five_line, five_at_law, lines_stop, past_stop, past_next}
 use Rattle.pyramid.specs.Ranges.{fits_range}
 use Rattle.places.specs.Walk.{entry_of}
 use Rattle.places.proofs.Sides.{passed}
 use Rattle.integers.specs.Zero.{is_zero}
-use Rattle.sheet_text.specs.Rows.{values_of}
-use Rattle.sheet_text.specs.Sheet.{is_some}
-use Rattle.sheet_scan.specs.Scan.{fit_along}
 use Rattle.sheet_scan.specs.Front.{walk_to, Standing, places_left}
 use Rattle.sheet_scan.proofs.Scans.{some_stop, some_left, some_skip, some_line, fit_stop, fit_done, fit_skip, fit_line}
-use Rattle.sheet_scan.proofs.Fronts.{small, ended, Reached, reached, line_of, value_of, others_of}
+use Rattle.sheet_scan.proofs.Fronts.{ended, Reached, reached, line_of, value_of, others_of}
 use Rattle.sheet_scan.proofs.scan.look_along.Goals as goal
 
-pub returns-in_default : goal.returns-in_default
-returns-in_default c =
+pub returns : goal.returns
+returns c =
     let a = c.args in
     let l = c.loop-f in
     let s = a.s.now in
-    let none = five_none s l.p (sym c.read_five.ensures ∙ c.in_default.is) in
+    let none = five_none s l.p (sym c.in_default.ensures) in
     let stop = lines_stop five s l.p none in
     let rs = lines_at five s l.p in (
       past_stop five s l.p l.invariant.2 none ∙ l.invariant.3,
@@ -32,13 +29,13 @@ returns-in_default c =
 
 pub returns-then-k-eq0 : goal.returns-then-k-eq0
 returns-then-k-eq0 c =
-    let line : FiveLine c.args.s.now c.loop-f.p c.in-Of.f = five_line c.args.s.now c.loop-f.p c.in-Of.f (sym c.read_five.ensures ∙ c.in-Of.is) in
-    let read : RowRead five c.args.s.now c.loop-f.p c.in-Of.f.next = five_at_law c.args.s.now c.loop-f.p c.in-Of.f (sym c.read_five.ensures ∙ c.in-Of.is) in
-    let went : fives_at c.args.s.now c.in-Of.f.next ≡ fives_at c.args.s.now c.args.at =
-    sym (past_next five c.args.s.now c.loop-f.p c.in-Of.f.next read.cells (omega arith) read.read) ∙ c.loop-f.invariant.3 in
+    let line : FiveLine c.args.s.now c.loop-f.p c.in-Some.f = five_line c.args.s.now c.loop-f.p c.in-Some.f (sym c.in-Some.ensures) in
+    let read : RowRead five c.args.s.now c.loop-f.p c.in-Some.f.next = five_at_law c.args.s.now c.loop-f.p c.in-Some.f (sym c.in-Some.ensures) in
+    let went : fives_at c.args.s.now c.in-Some.f.next ≡ fives_at c.args.s.now c.args.at =
+    sym (past_next five c.args.s.now c.loop-f.p c.in-Some.f.next read.cells (omega arith) read.read) ∙ c.loop-f.invariant.3 in
     let a = c.args in
     let l = c.loop-f in
-    let f = c.in-Of.f in
+    let f = c.in-Some.f in
     let x = line in
     let q = c.seek-k.ensures.skipped in
     let K = places_left l.k in
@@ -61,18 +58,18 @@ fits_range-fits-requires c =
 
 pub loop-f-smaller : goal.loop-f-smaller
 loop-f-smaller c =
-    let read : RowRead five c.args.s.now c.loop-f.p c.in-Of.f.next = five_at_law c.args.s.now c.loop-f.p c.in-Of.f (sym c.read_five.ensures ∙ c.in-Of.is) in
+    let read : RowRead five c.args.s.now c.loop-f.p c.in-Some.f.next = five_at_law c.args.s.now c.loop-f.p c.in-Some.f (sym c.in-Some.ensures) in
     read.less
 
 pub loop-f-preserved : goal.loop-f-preserved
 loop-f-preserved c =
-    let line : FiveLine c.args.s.now c.loop-f.p c.in-Of.f = five_line c.args.s.now c.loop-f.p c.in-Of.f (sym c.read_five.ensures ∙ c.in-Of.is) in
-    let read : RowRead five c.args.s.now c.loop-f.p c.in-Of.f.next = five_at_law c.args.s.now c.loop-f.p c.in-Of.f (sym c.read_five.ensures ∙ c.in-Of.is) in
-    let went : fives_at c.args.s.now c.in-Of.f.next ≡ fives_at c.args.s.now c.args.at =
-    sym (past_next five c.args.s.now c.loop-f.p c.in-Of.f.next read.cells (omega arith) read.read) ∙ c.loop-f.invariant.3 in
+    let line : FiveLine c.args.s.now c.loop-f.p c.in-Some.f = five_line c.args.s.now c.loop-f.p c.in-Some.f (sym c.in-Some.ensures) in
+    let read : RowRead five c.args.s.now c.loop-f.p c.in-Some.f.next = five_at_law c.args.s.now c.loop-f.p c.in-Some.f (sym c.in-Some.ensures) in
+    let went : fives_at c.args.s.now c.in-Some.f.next ≡ fives_at c.args.s.now c.args.at =
+    sym (past_next five c.args.s.now c.loop-f.p c.in-Some.f.next read.cells (omega arith) read.read) ∙ c.loop-f.invariant.3 in
     let a = c.args in
     let l = c.loop-f in
-    let f = c.in-Of.f in
+    let f = c.in-Some.f in
     let x = line in
     let k = c.seek-k.result in
     let g : 0 < k.left = omega (arith, c.if-k-eq0.false) in

@@ -2,7 +2,7 @@
 -- Assumes nothing.
 use mathlib.Core.Path.{◌≡◌, refl, sym, ap, ◌∙◌, subst}
 use mathlib.Core.List.{List, ◌∷◌, ◌++◌}
-use Prim.Native.Nat.{ℕ, ◌+◌, ◌*◌, ◌<◌}
+use Prim.Native.Nat.{ℕ, ◌*◌, ◌<◌}
 use native.Mathlib.Omega.{arith}
 use lib.IntN.{ℤ, pos}
 use lib.ListN.{length, replicate, length-replicate, set, length-set, get_or}
@@ -11,12 +11,12 @@ use mir.Val.{to_z, of_z}
 use Rattle.text.specs.Lines.{five, lines_at}
 use Rattle.text.proofs.Many.{FiveLine, five_none, five_line, five_at_law, lines_stop}
 use Rattle.pyramid.specs.Places.{plane_places}
-use Rattle.places.specs.Walk.{entry_of, index_in, Inside}
+use Rattle.places.specs.Walk.{entry_of, index_in}
 use Rattle.places.proofs.Sides.{Passed, passed}
 use Rattle.sheet_scan.specs.Scan.{stored_along}
 use Rattle.sheet_scan.specs.Front.{walk_to, Standing, places_left}
 use Rattle.sheet_scan.proofs.Stored.{Filling, cleared, same_plane, all_lines, all_places, pass_others, put_line}
-use Rattle.sheet_scan.proofs.Fronts.{small, walking, ahead, ended, Reached, reached, line_of, value_of, others_of}
+use Rattle.sheet_scan.proofs.Fronts.{ended, Reached, reached, line_of, value_of, others_of}
 use Rattle.sheet_scan.proofs.scan.store_values.Goals as goal
 
 -- what the plane held before it was cleared does not matter
@@ -37,19 +37,19 @@ loop-f-init c =
       subst (λ ps. Filling a.height (stored_along a.height (plane_places a.levels a.height a.width) rs P) P ps rs) (sym c.first-k.ensures.2) (cleared a.height a.width a.levels q rs P z),
     )
 
-pub returns-in_default : goal.returns-in_default
-returns-in_default c =
+pub returns : goal.returns
+returns c =
     let a = c.args in
     let l = c.loop-f in
-    let none = five_none a.s.now l.p (sym c.read_five.ensures ∙ c.in_default.is) in
+    let none = five_none a.s.now l.p (sym c.in_default.ensures) in
     all_lines a.height _ l.plane (places_left l.k) (lines_at five a.s.now l.p) l.invariant.3 (lines_stop five a.s.now l.p none) ∙ stored a.height a.width a.levels a.plane.now c.clear.new.s (lines_at five a.s.now a.at) (passed a.height a.width a.levels c.requires.width_value.0 c.requires.width_value.1) c.requires.plane_len c.clear.ensures
 
 pub returns-then-k-eq0 : goal.returns-then-k-eq0
 returns-then-k-eq0 c =
-    let line : FiveLine c.args.s.now c.loop-f.p c.in-Of.f = five_line c.args.s.now c.loop-f.p c.in-Of.f (sym c.read_five.ensures ∙ c.in-Of.is) in
+    let line : FiveLine c.args.s.now c.loop-f.p c.in-Some.f = five_line c.args.s.now c.loop-f.p c.in-Some.f (sym c.in-Some.ensures) in
     let a = c.args in
     let l = c.loop-f in
-    let f = c.in-Of.f in
+    let f = c.in-Some.f in
     let x = line in
     let q = c.seek-k.ensures.skipped in
     let rs' = lines_at five a.s.now f.next in
@@ -61,14 +61,14 @@ returns-then-k-eq0 c =
 
 pub loop-f-smaller : goal.loop-f-smaller
 loop-f-smaller c =
-    (five_at_law c.args.s.now c.loop-f.p c.in-Of.f (sym c.read_five.ensures ∙ c.in-Of.is)).less
+    (five_at_law c.args.s.now c.loop-f.p c.in-Some.f (sym c.in-Some.ensures)).less
 
 pub loop-f-preserved : goal.loop-f-preserved
 loop-f-preserved c =
-    let line : FiveLine c.args.s.now c.loop-f.p c.in-Of.f = five_line c.args.s.now c.loop-f.p c.in-Of.f (sym c.read_five.ensures ∙ c.in-Of.is) in
+    let line : FiveLine c.args.s.now c.loop-f.p c.in-Some.f = five_line c.args.s.now c.loop-f.p c.in-Some.f (sym c.in-Some.ensures) in
     let a = c.args in
     let l = c.loop-f in
-    let f = c.in-Of.f in
+    let f = c.in-Some.f in
     let x = line in
     let k = c.seek-k.result in
     let g : 0 < k.left = omega (arith, c.if-k-eq0.false) in

@@ -8,7 +8,4 @@ use Rattle.sifting.proofs.ranks.narrowed.Given as goal
 
 abbrev pub invariant-loop-j : goal.invariant-loop-j
 invariant-loop-j l =
-    let q = ranks l.levels l.height l.width (image_of l.height l.plane) in (l.j ≤ 511) × (l.total ≡ from q (l.base + l.j * l.step + l.step)) × (l.total ≤ l.quota) × RunCounts q l.base l.step l.counts
-
-abbrev pub decreases-loop-j : goal.decreases-loop-j
-decreases-loop-j l = l.j
+    let q = ranks l.levels l.height l.width (image_of l.height l.plane) in (1 ≤ l.j) × (l.total ≡ from q (l.base + l.j * l.step)) × (l.total ≤ l.quota) × RunCounts q l.base l.step l.counts

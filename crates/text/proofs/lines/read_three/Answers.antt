@@ -3,22 +3,22 @@ use mathlib.Core.Path.{sym, ◌∙◌}
 use Rattle.text.proofs.Line.{three_1, three-2, three-3, three-4}
 use Rattle.text.proofs.lines.read_three.Goals as goal
 
-pub returns-in_default : goal.returns-in_default
-returns-in_default c =
+pub returns-in_err-first : goal.returns-in_err-first
+returns-in_err-first c =
     let a = c.args in
-    three_1 a.s.now a.at (sym c.read_size.ensures ∙ c.in_default.is)
+    c.from_residual.ensures ∙ three_1 a.s.now a.at (sym c.in_err-first.ensures)
 
-pub returns-in_default-read_size : goal.returns-in_default-read_size
-returns-in_default-read_size c =
+pub returns-in_err-second : goal.returns-in_err-second
+returns-in_err-second c =
     let a = c.args in
-    three-2 a.s.now a.at c.in-Of.first c.in-Of.p (sym c.read_size.ensures ∙ c.in-Of.is) (sym c.read_size-2.ensures ∙ c.in_default-read_size.is)
+    c.from_residual-in_err-second.ensures ∙ three-2 a.s.now a.at c.in_ok-first.first c.in_ok-first.p (sym c.in_ok-first.ensures) (sym c.in_err-second.ensures)
 
-pub returns-in_default-read_size-2 : goal.returns-in_default-read_size-2
-returns-in_default-read_size-2 c =
+pub returns-in_err-third : goal.returns-in_err-third
+returns-in_err-third c =
     let a = c.args in
-    three-3 a.s.now a.at c.in-Of.first c.in-Of.p (sym c.read_size.ensures ∙ c.in-Of.is) c.in-Of-read_size.second c.in-Of-read_size.q (sym c.read_size-2.ensures ∙ c.in-Of-read_size.is) (sym c.read_size-3.ensures ∙ c.in_default-read_size-2.is)
+    c.from_residual-in_err-third.ensures ∙ three-3 a.s.now a.at c.in_ok-first.first c.in_ok-first.p (sym c.in_ok-first.ensures) c.in_ok-second.second c.in_ok-second.q (sym c.in_ok-second.ensures) (sym c.in_err-third.ensures)
 
 pub returns : goal.returns
 returns c =
     let a = c.args in
-    three-4 a.s.now a.at c.in-Of.first c.in-Of.p (sym c.read_size.ensures ∙ c.in-Of.is) c.in-Of-read_size.second c.in-Of-read_size.q (sym c.read_size-2.ensures ∙ c.in-Of-read_size.is) c.in-Of-read_size-2.third c.in-Of-read_size-2.next (sym c.read_size-3.ensures ∙ c.in-Of-read_size-2.is)
+    three-4 a.s.now a.at c.in_ok-first.first c.in_ok-first.p (sym c.in_ok-first.ensures) c.in_ok-second.second c.in_ok-second.q (sym c.in_ok-second.ensures) c.in_ok-third.third c.in_ok-third.next (sym c.in_ok-third.ensures)

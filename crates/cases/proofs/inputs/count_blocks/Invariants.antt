@@ -1,8 +1,0 @@
--- `cases::inputs::count_blocks` is safe and ends. Assumes nothing.
-use Rattle.cases.proofs.inputs.count_blocks.Given as goal
-
-abbrev pub invariant-loop-left : goal.invariant-loop-left
-invariant-loop-left l = Unit
-
-abbrev pub decreases-loop-left : goal.decreases-loop-left
-decreases-loop-left l = l.left

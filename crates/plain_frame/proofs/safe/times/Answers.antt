@@ -1,7 +1,0 @@
--- `plain_frame::safe::times` is safe and ends. Assumes nothing.
-use native.Mathlib.Omega.{arith}
-use native.Mathlib.Nat.{mul-le-mul, le_of_lt}
-use Rattle.plain_frame.proofs.safe.times.Goals as goal
-
-pub overflow_mul-result : goal.overflow_mul-result
-overflow_mul-result c = omega (arith, mul-le-mul (le_of_lt c.if-a-lt2147483648.true) (le_of_lt c.if-b-lt2147483648.true))

@@ -1,9 +1,0 @@
--- `vectors::pictures::listed_group` is safe and ends. Assumes nothing.
-use Prim.Native.Nat.{◌-◌, ◌≤◌}
-use Rattle.vectors.proofs.pictures.listed_group.Given as goal
-
-abbrev pub invariant-loop-c : goal.invariant-loop-c
-invariant-loop-c l = l.c ≤ 36864
-
-abbrev pub decreases-loop-c : goal.decreases-loop-c
-decreases-loop-c l = 36864 - l.c

@@ -1,9 +1,0 @@
--- `vectors::views::flawed_group` is safe and ends. Assumes nothing.
-use Prim.Native.Nat.{◌-◌, ◌≤◌}
-use Rattle.vectors.proofs.views.flawed_group.Given as goal
-
-abbrev pub invariant-loop-c : goal.invariant-loop-c
-invariant-loop-c l = l.c ≤ 27744
-
-abbrev pub decreases-loop-c : goal.decreases-loop-c
-decreases-loop-c l = 27744 - l.c

@@ -1,9 +1,0 @@
--- `vectors::views::group` is safe and ends. Assumes nothing.
-use Prim.Native.Nat.{◌-◌, ◌≤◌}
-use Rattle.vectors.proofs.views.group.Given as goal
-
-abbrev pub invariant-loop-c : goal.invariant-loop-c
-invariant-loop-c l = l.c ≤ 75264
-
-abbrev pub decreases-loop-c : goal.decreases-loop-c
-decreases-loop-c l = 75264 - l.c

@@ -1,0 +1,26 @@
+#!/bin/bash
+# The counts of docs/DESIGN-PASS.md, by point. Run it at the top of a checkout.
+src() { cat crates/*/src/*.rt; }
+say() { printf '%-66s %s\n' "$1" "$2"; }
+say "1  enums" "$(src | grep -cE '^ *(pub )?enum ')"
+say "1  lines that return a number as a refusal (plain*)" "$(cat crates/plain{,_frame,_text,_cutter}/src/*.rt | grep -cE 'return [0-9]+;')"
+say "1  functions that answer a number or an Outcome (plain*)" "$(cat crates/plain{,_frame,_text,_cutter}/src/*.rt | grep -cE '^(pub )?fn .*-> (u32|Outcome)( \{|$)|^\) -> (u32|Outcome) ')"
+say "1  answers taken apart and given again" "$(src | grep -cE 'return (Answer|Counted|Shown|Reading|Header)::Refused\(r\)')"
+say "1  ?" "$(src | grep -cE '\?;|\?$|\? *\}')"
+say "2  functions for one element type each (move_, put_, same_, .._at)" "$(src | grep -cE '^ *(pub )?fn (same_(values|bytes|samples)|(byte|value|sample)_at|put_(byte|value|sample)|move_(run|numbers)|read_(three|four|five)|pass_(fours|fives))\b')"
+say "3  while and loop" "$(src | grep -cE "^ *('[a-z]+: *)?(while|loop)\b")"
+say "3  for" "$(src | grep -cE "^ *('[a-z]+: *)?for .* in ")"
+say "3  += 1 or -= 1 on a line of its own" "$(src | grep -cE '^ *[a-z_]+ [+-]= 1;$')"
+say "4  structs copied field by field (x: k.x,)" "$(src | grep -cE '^ +([a-z_]+): [a-z]+\.\1,$')"
+say "4  fields named twice (x: x,)" "$(src | grep -cE '^ +([a-z_]+): \1,$')"
+say "4  derives of Eq, Debug, Default" "$(src | grep -cE 'derive\(.*(Eq|Debug|Default)')"
+say "5  lists of parameters with height, width, levels" "$(src | tr '\n' ' ' | grep -oE 'height: [a-z0-9]+, +width: [a-z0-9]+, +levels: [a-z0-9]+' | wc -l)"
+say "5  parameters that are a table of the crates coverings, tables" "$(src | grep -cE ': &\[u8; (356|468|1872)\]')"
+say "5  clauses that say that a table is the table" "$(src | grep -cE '(words|placements|fours|cells)\.now ≡ ')"
+say "5  clauses with is_sides height width" "$(src | grep -cE 'requires.*is_sides height width')"
+say "6  a buffer with the place in it as a parameter (out, at)" "$(src | grep -cE 'out: &mut \[u8\], at: usize')"
+say "7  enums that say which function runs (Way, Task, Rule, Choice)" "$(src | grep -cE '^ *(pub )?enum (Way|Task|Rule|Choice)\b')"
+say "7  parameters that are closures" "$(src | grep -cE ': (impl )?Fn(Mut|Once)?\(')"
+say "8  files of answers, and their lines" "$(find crates/*/proofs -name Answers.antt | wc -l), $(find crates/*/proofs -name Answers.antt -exec cat {} + | wc -l)"
+say "8  files of invariants" "$(find crates/*/proofs -name Invariants.antt | wc -l)"
+say "   lines of src" "$(src | wc -l)"
