@@ -1,13 +1,12 @@
 -- An answer taken apart: its number, and its values told through references. P is a contract over the number and the values. Assumes nothing.
 use Rattle.std.specs.Prelude.{Result, Ok, Err}
-use mathlib.Core.Path.{◌≡◌, refl, sym, subst, subst⁻¹}
+use mathlib.Core.Path.{◌≡◌, refl, subst, subst⁻¹}
 use Prim.Native.Nat.{ℕ}
 use Rattle.refusals.specs.Refusal.{number_of, after_call}
 use Rattle.refusals.specs.declared.Refusal.{Refusal}
 use Rattle.refusals.proofs.After.{unchanged}
 use Rattle.sheet.specs.Read.{reading_of, height_of, width_of, levels_of}
 use Rattle.sheet.specs.declared.Sheet.{Sheet}
-use Rattle.std.specs.Prelude.{Result, Ok, Err}
 use Rattle.c_api.specs.Told.{Told}
 
 -- a contract over the number and the value that an answer has, by what is told of them

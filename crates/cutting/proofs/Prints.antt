@@ -13,16 +13,14 @@ use borrow.Author.Tests.{ltb-false, lt-ltb, le-ltb}
 use Rattle.pyramid.specs.Sides.{is_sides, is_depth}
 use Rattle.refusals.specs.Refusal.{number_of, answer_of}
 use Rattle.refusals.specs.declared.Refusal.{Refusal}
-use Rattle.refusals.proofs.After.{number_le}
 use Rattle.text.specs.Text.{parse}
 use Rattle.cutter_text.specs.Forms.{samples_form}
 use Rattle.cutter_text.specs.Picture.{picture_in}
 use Rattle.cutting.specs.Cutter.{refusal_text, picture_text, samples_text, sizes_text, header_text, input_limit, cutter_text, Printed}
-use Rattle.cutter_text.specs.Header.{header_of, Headed, HeaderIn}
+use Rattle.cutter_text.specs.Header.{Headed, HeaderIn}
 use Rattle.cutting.specs.Checked.{Passed, Checked}
 use Rattle.cutter_text.specs.Rows.{Stored, SamplesIn}
 use Rattle.cutter_text.specs.declared.header.Heading.{Heading}
-use Rattle.std.specs.Prelude.{Result, Ok, Err}
 use Rattle.cutting.proofs.Sheets.{held_text}
 
 pub printed : {x y old new : List ℕ} {m : ℕ} → x ≡ y → Printed y old new m → Printed x old new m
