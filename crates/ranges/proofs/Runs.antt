@@ -42,9 +42,28 @@ module _ (low : Bool) (most : ℕ) (p : List ℤ) (s n : ℕ) (inside : s + n �
     (λ r k l. let m : k < n = omega (arith, part_long) in subst⁻¹ (λ (z : ℤ). Bounded low most z) (there_in k m) (r k m)),
   )
 
+-- a run and one entry more
+module _ (low : Bool) (most : ℕ) (p : List ℤ) (first : ℕ) where
+  pub run_none : Run low most p first 0
+  run_none k l = absurd (omega arith)
+
+  pub run_next : (n : ℕ) → Run low most p first n → Bounded low most (get_or p (first + n) (pos 0)) → Run low most p first (n + 1)
+  run_next n r b k l = go (dec_lt k n)
+    where
+      go : Dec (k < n) → Bounded low most (get_or p (first + k) (pos 0))
+      go (yes g) = r k g
+      go (no g) = let e : n ≡ k = omega arith in subst (λ (k : ℕ). Bounded low most (get_or p (first + k) (pos 0))) e b
+
 -- those beyond a bound are counted: none is, just if the run is within it
 abbrev pub Counts : ℕ → List ℤ → ℕ → ℕ → ℕ → Type 0
 Counts most p first n beyond = (beyond ≡ 0) ↔ Run false most p first n
+
+-- the turn of such a count
+pub count_next : (most : ℕ) (p : List ℤ) (first n beyond e : ℕ) → Counts most p first n beyond → (e ≡ 0) ↔ Bounded false most (get_or p (first + n) (pos 0)) → Counts most p first (n + 1) (beyond + e)
+count_next most p first n beyond e c b = (
+  (λ z. run_next false most p first n (c.0 (omega arith)) (b.0 (omega arith))),
+  (λ r. let y = c.1 (λ k l. r k (omega arith)) in let z = b.1 (r n (omega arith)) in omega arith),
+)
 
 -- ---- a rectangle
 

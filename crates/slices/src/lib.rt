@@ -1,6 +1,7 @@
 // Lent slices: clearing one, copying one, and moving numbers, or a rectangle of one that is stored down columns, from one place to another. A slice of height
 // h has the entry of row y, column x at x * h + y. What a run of stores leaves is said by recursion in specs/Stores.antt, and entry by entry in
 // proofs/Stores.antt.
+// Kept: copies are loops. The library's `copy_from_slice` is `memmove` in the archive for C, which needs `memcpy` and `memset` alone.
 #![tactic(auto)]
 
 ghost use Rattle.std.specs.Prelude.{◌≡◌, map, ◌+◌, ◌*◌, ◌≤◌, pos, length, replicate};
@@ -18,7 +19,9 @@ pub fn copy(from: &[i64], to: &mut [i64])
     requires { length to.old ≡ length from.now }
     ensures { to.new ≡ from.now }
 {
-    to.copy_from_slice(from);
+    for (i, v) in from.iter().enumerate() {
+        to[i] = *v;
+    }
 }
 
 // Samples as signed entries. Two wrong answers that the contract rules out: a sample over 32,767 below zero; the last sample left out.
@@ -31,13 +34,25 @@ pub fn widen(from: &[u16], to: &mut [i64])
     }
 }
 
-// n numbers, as those of coverings, from one place in a slice to another place in another.
+// n entries, from one place in a slice to another place in another.
+fn move_run(from: &[i64], first: usize, to: &mut [i64], at: usize, n: usize)
+    requires { (first + n ≤ length from.now) × (at + n ≤ length to.old) }
+    ensures { to.new ≡ pasted (pos 0) from.now first at n to.old }
+{
+    for r in 0..n {
+        to[at + r] = from[first + r];
+    }
+}
+
+// The same for numbers, as those of coverings.
 // Two wrong answers that the contract rules out: the numbers from the front of the slice; and one number too many.
 pub fn move_numbers(from: &[u8], first: usize, to: &mut [u8], at: usize, n: usize)
     requires { (first + n ≤ length from.now) × (at + n ≤ length to.old) }
     ensures { to.new ≡ pasted 0 from.now first at n to.old }
 {
-    to[at..at + n].copy_from_slice(&from[first..first + n]);
+    for r in 0..n {
+        to[at + r] = from[first + r];
+    }
 }
 
 // The first `tall` rows of `wide` columns, from one place in a slice to another place in another of the same height. Two wrong answers that the contract
@@ -55,9 +70,8 @@ pub fn move_columns(
     ensures { to.new ≡ columns height tall wide from.now first at to.old }
 {
     for c in 0..wide {
-        let source = first + c * height;
-        let target = at + c * height;
-        to[target..target + tall].copy_from_slice(&from[source..source + tall]);
+        let k = c * height;
+        move_run(from, first + k, to, at + k, tall);
     }
 }
 

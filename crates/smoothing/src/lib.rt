@@ -38,6 +38,17 @@ fn sign(here: i64, there: i64) -> i64
     0
 }
 
+// The sign of an entry less the one `back` places before it, where that is inside the picture: only there is its place worked out.
+fn against_before(values: &[i64], inside: bool, here: usize, back: usize) -> i64
+    requires { (here < length values.now) × (inside ≡ true → back ≤ here) }
+    ensures { result ≡ against inside (get_or values.now here (pos 0)) (get_or values.now (here - back) (pos 0)) }
+{
+    if inside {
+        return sign(values[here], values[here - back]);
+    }
+    0
+}
+
 // The sign of an entry less another, where that is inside the picture.
 fn against(values: &[i64], inside: bool, here: usize, there: usize) -> i64
     requires { (here < length values.now) × (inside ≡ true → there < length values.now) }
@@ -55,9 +66,9 @@ fn slope(values: &[i64], height: usize, width: usize, row: usize, col: usize) ->
     ensures { result ≡ gradient height width (image_of height values.now) row col }
 {
     let k = col * height + row;
-    let above = against(values, 0 < row, k, k.saturating_sub(1));
+    let above = against_before(values, 0 < row, k, 1);
     let below = against(values, row + 1 < height, k, k + 1);
-    let left = against(values, 0 < col, k, k.saturating_sub(height));
+    let left = against_before(values, 0 < col, k, height);
     let right = against(values, col + 1 < width, k, k + height);
     2 * (above + below + left + right)
 }

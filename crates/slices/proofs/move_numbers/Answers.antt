@@ -1,6 +1,13 @@
 -- `slices::move_numbers` meets its contract. Assumes nothing.
-use Rattle.slices.proofs.Stores.{pasted_part}
+use Rattle.std.proofs.Common.{rules}
+use native.Mathlib.Numerals.{add-one}
+use Rattle.slices.specs.Stores.{pasted}
 use Rattle.slices.proofs.move_numbers.Goals as goal
 
-pub returns : goal.returns
-returns c = pasted_part 0 c.args.from.now c.args.first c.args.at c.args.n c.args.to.now c.copy_from_slice.new.self c.requires.0 c.requires.1 c.copy_from_slice.ensures.after
+pub loop-r-init : goal.loop-r-init
+unfolding pasted
+loop-r-init c = search rules
+
+pub loop-r-preserved : goal.loop-r-preserved
+unfolding pasted
+loop-r-preserved c = rw (add-one, c.loop-r.invariant)
