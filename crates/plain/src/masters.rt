@@ -39,7 +39,10 @@ pub fn restore_master(
     let mut found = [0i64; 1024];
     put_numerators(words, frame, plane, coverings, &mut room, &mut found);
     let unit = size(weighted(1, levels));
-    let are_whole = found.iter().all(|numerator| is_whole(*numerator, unit));
+    let are_whole = found
+        .iter()
+        .take(frame.area())
+        .all(|numerator| is_whole(*numerator, unit));
     Refusal::Fraction.unless(are_whole)?;
     copy_image(&found, numerators, frame.extent, 1);
     for i in 0..samples.len() {

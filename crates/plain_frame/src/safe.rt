@@ -1,4 +1,5 @@
-// Sums, products and places that cannot fail: outside the range that accepted work needs, the answer is 0 and a store does nothing.
+// Sums, products and places that cannot fail: outside the range that accepted work needs, the answer is 0 and a store does nothing. `add`, `opposite`, `size` and
+// `signed` answer 0 only where the result is 0 or would not fit.
 
 pub fn plus(a: usize, b: usize) -> usize {
     if a < 4611686018427387904 && b < 4611686018427387904 {
