@@ -1,9 +1,9 @@
 -- `blockwise::results_of` meets its contract. Assumes nothing.
-use mathlib.Core.Path.{sym, ap, ◌∙◌, subst}
+use mathlib.Core.Path.{refl, sym, ap, ◌∙◌, subst}
 use Prim.Native.Nat.{◌+◌, ◌*◌, ◌/◌, ◌%◌, ◌<◌, ◌≤◌, ◌^◌}
 use native.Mathlib.Omega.{arith}
 use lib.IntN.{ℤ, pos, nat_abs, ◌*ℤ◌}
-use lib.ListN.{length, get_or, length-set, length-append}
+use lib.ListN.{length, get_or, length-set}
 use mir.Syntax.{w64}
 use Rattle.integers.proofs.Half.{half_store}
 use Rattle.integers.proofs.Signs.{kept}
@@ -14,7 +14,7 @@ use Rattle.grid.proofs.Near.{result_near}
 use Rattle.synthesis.specs.Synthesis.{counted}
 use Rattle.synthesis.proofs.Counted.{counted_high}
 use Rattle.blockwise.specs.Node.{results_over}
-use Rattle.blockwise.proofs.Merged.{over_length, over_high, over_first, over_start, over_end}
+use Rattle.blockwise.proofs.Merged.{over_length, over_high, over_read, over_end}
 use Rattle.blockwise.proofs.results_of.Goals as goal
 
 near : (c : goal.In-loop-k) → let l = c.loop-k in let a = c.args in
@@ -22,10 +22,8 @@ near : (c : goal.In-loop-k) → let l = c.loop-k in let a = c.args in
 near c = let l = c.loop-k in (result_near l.k c.args.height, l.invariant.2 (l.k / 4) (omega arith))
 
 pub loop-k-init : goal.loop-k-init
-loop-k-init c =
-    let a = c.args in
-    let f = c.copy_from_slice.ensures in
-    (omega arith, omega arith, c.requires.by_index, simp length-append (omega (arith, f.len)), simp length-append (omega (arith, f.len)), over_first a.weight (band_place a.height a.begin) a.low a.plane.now c.copy_from_slice.new.self _ f.len)
+unfolding results_over
+loop-k-init c = (omega arith, omega arith, c.requires.by_index, refl, refl, refl)
 
 pub overflow_mul-place : goal.overflow_mul-place
 overflow_mul-place c = omega (arith, near c)
@@ -75,4 +73,4 @@ returns c =
     let a = c.args in
     let g = band_place a.height a.begin in
     over_end a.weight g a.low a.plane.now _ c.loop-k.k inv.5 inv.3 (omega arith)
-    (over_start a.weight g a.low a.plane.now c.copy_from_slice.new.self _ c.copy_from_slice.ensures.after c.copy_from_slice.ensures.len)
+    (over_read a.weight g a.low a.plane.now _ c.v-1.given c.v-2-1.given c.v-3-1.given c.v-4-1.given)
